@@ -39,9 +39,9 @@ abbrev pub room : Direction → Meaning → Bool
 room Forward m = leZ (m .count +ℤ pos 1) (m .greatest)
 room Backward m = leZ (m .least) (m .count +ℤ negsuc 0)
 
--- the same drive, its count gone by z
-abbrev pub moved : ℤ → Meaning → Meaning
-moved z m = record { count = m .count +ℤ z; least = m .least; greatest = m .greatest; ready = m .ready }
+-- the same drive at the count n
+abbrev pub at : ℤ → Meaning → Meaning
+at n m = record { count = n; least = m .least; greatest = m .greatest; ready = m .ready }
 
 -- what a pulse is answered
 abbrev pub answered : Direction → Meaning → Result (Unit {0}) Refusal
@@ -49,7 +49,7 @@ answered d m = cond (m .ready) (cond (room d m) (Ok tt) (Err Ended)) (Err NotRea
 
 -- what a pulse leaves: a refused one leaves all as it is
 abbrev pub pulsed : Direction → Meaning → Meaning
-pulsed d m = cond (m .ready) (cond (room d m) (moved (one d) m) m) m
+pulsed d m = cond (m .ready) (cond (room d m) (at (m .count +ℤ one d) m) m) m
 
 -- what a level leaves
 abbrev pub levelled : Bool → Meaning → Meaning

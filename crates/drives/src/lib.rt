@@ -8,6 +8,7 @@ pub mod clock_stage;
 pub mod direction;
 pub mod drive;
 pub mod fault;
+pub mod send;
 
 
 
