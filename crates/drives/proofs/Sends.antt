@@ -85,7 +85,7 @@ go-at : (d : Direction) (n : ℤ) (m : Meaning) → m .ready ≡ true → pulsed
 go-at d n m h = go d (at n m) h ∙ choose (room d (at n m)) (n +ℤ one d) n m
 
 -- the count after k pulses of a ready drive
-abbrev far : Direction → ℕ → Meaning → ℤ
+abbrev pub far : Direction → ℕ → Meaning → ℤ
 far Forward k m = minZ (m .count +ℤ pos k) (m .greatest)
 far Backward k m = maxZ (m .count +ℤ negℤ (pos k)) (m .least)
 
@@ -97,7 +97,7 @@ far-more : (d : Direction) (k : ℕ) (m : Meaning) → Sound m → cond (room d 
 far-more Forward k m s = up (m .count) (m .greatest) k (s .high)
 far-more Backward k m s = down (m .count) (m .least) k (s .low)
 
-ready-far : (d : Direction) (k : ℕ) (m : Meaning) → Sound m → m .ready ≡ true → sent d k m ≡ at (far d k m) m
+pub ready-far : (d : Direction) (k : ℕ) (m : Meaning) → Sound m → m .ready ≡ true → sent d k m ≡ at (far d k m) m
 ready-far d zero m s h = ap (λ (n : ℤ). at n m) (far-none d m s)
 ready-far d (suc k) m s h =
     ap (pulsed d) (ready-far d k m s h) ∙ (go-at d (far d k m) m h ∙ ap (λ (n : ℤ). at n m) (far-more d k m s))
@@ -116,3 +116,35 @@ reach-by false d k m s h = unready d k m h ∙ ap (λ (n : ℤ). at n m) (reache
 
 pub reach : (d : Direction) (k : ℕ) (m : Meaning) → Sound m → sent d k m ≡ at (reached d k m) m
 reach d k m s = reach-by (m .ready) d k m s refl
+
+-- k pulses that all have room
+abbrev pub gone : Direction → ℕ → Meaning → ℤ
+gone Forward k m = m .count +ℤ pos k
+gone Backward k m = m .count +ℤ negℤ (pos k)
+
+abbrev pub Within : Direction → ℕ → Meaning → Type 0
+Within Forward k m = (m .count +ℤ pos k) ≤ℤ m .greatest
+Within Backward k m = m .least ≤ℤ (m .count +ℤ negℤ (pos k))
+
+far-gone : (d : Direction) (k : ℕ) (m : Meaning) → Within d k m → far d k m ≡ gone d k m
+far-gone Forward k m w = grind (arith, ints)
+far-gone Backward k m w = grind (arith, ints)
+
+within-less : (d : Direction) (k : ℕ) (m : Meaning) → Within d (suc k) m → Within d k m
+within-less Forward k m w = omega (arith, ints)
+within-less Backward k m w = omega (arith, ints)
+
+within-room : (d : Direction) (k : ℕ) (m : Meaning) → Within d (suc k) m → room d (at (gone d k m) m) ≡ true
+within-room Forward k m w = grind (arith, ints)
+within-room Backward k m w = grind (arith, ints)
+
+accepts : (d : Direction) (m : Meaning) → m .ready ≡ true → room d m ≡ true → answered d m ≡ Ok tt
+accepts d m h r = cc
+
+pub all-sent : (d : Direction) (k : ℕ) (m : Meaning) → Sound m → m .ready ≡ true → Within d k m → sent d k m ≡ at (gone d k m) m
+all-sent d k m s h w = ready-far d k m s h ∙ ap (λ (n : ℤ). at n m) (far-gone d k m w)
+
+pub all-told : (d : Direction) (k : ℕ) (m : Meaning) → Sound m → m .ready ≡ true → Within d k m → told d k m ≡ Ok tt
+all-told d zero m s h w = refl
+all-told d (suc k) m s h w =
+    ap (answered d) (all-sent d k m s h (within-less d k m w)) ∙ accepts d (at (gone d k m) m) h (within-room d k m w)

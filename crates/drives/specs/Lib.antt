@@ -2,3 +2,4 @@ pub mod Meaning
 pub mod Faults
 pub mod Sending
 pub mod Stage
+pub mod TakeUp

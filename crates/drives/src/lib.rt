@@ -9,6 +9,7 @@ pub mod direction;
 pub mod drive;
 pub mod fault;
 pub mod send;
+pub mod take_up;
 
 
 
