@@ -16,7 +16,7 @@ use Rattle.drives.specs.Meaning.{Meaning, Sound, at, one, room, answered, puls
 use Rattle.drives.specs.Sending.{sent, told}
 use Rattle.drives.specs.Stage.{turned}
 use Rattle.drives.specs.TakeUp.{lead, above, fits, closed, layer, passed, beneath}
-use Rattle.drives.proofs.Sends.{gone, Within, all-sent, all-told}
+use Rattle.drives.proofs.Sends.{gone, Within, accepts, all-sent, all-told}
 
 -- a closed drive has no room
 shut : (d : Direction) (m : Meaning) → room d (closed m) ≡ false
@@ -56,9 +56,6 @@ next-count b Backward Forward m = omega (arith, ints)
 
 goes : (d : Direction) (m : Meaning) → m .ready ≡ true → room d m ≡ true → pulsed d m ≡ at (m .count +ℤ one d) m
 goes d m h r = cc
-
-accepts : (d : Direction) (m : Meaning) → m .ready ≡ true → room d m ≡ true → answered d m ≡ Ok tt
-accepts d m h r = cc
 
 -- what the layer and the drive below owe, with x the drive below after the pulses that were passed on
 pub record Owed (b : ℕ) (d f : Direction) (m : Meaning) (r : Result (Unit {0}) Refusal) (x : Meaning) : Type 0 where

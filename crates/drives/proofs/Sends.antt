@@ -138,7 +138,7 @@ within-room : (d : Direction) (k : ℕ) (m : Meaning) → Within d (suc k) m →
 within-room Forward k m w = grind (arith, ints)
 within-room Backward k m w = grind (arith, ints)
 
-accepts : (d : Direction) (m : Meaning) → m .ready ≡ true → room d m ≡ true → answered d m ≡ Ok tt
+pub accepts : (d : Direction) (m : Meaning) → m .ready ≡ true → room d m ≡ true → answered d m ≡ Ok tt
 accepts d m h r = cc
 
 pub all-sent : (d : Direction) (k : ℕ) (m : Meaning) → Sound m → m .ready ≡ true → Within d k m → sent d k m ≡ at (gone d k m) m

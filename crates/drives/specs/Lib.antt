@@ -3,3 +3,4 @@ pub mod Faults
 pub mod Sending
 pub mod Stage
 pub mod TakeUp
+pub mod Laws

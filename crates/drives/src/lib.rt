@@ -8,8 +8,12 @@ pub mod clock_stage;
 pub mod direction;
 pub mod drive;
 pub mod fault;
+pub mod replay;
 pub mod send;
 pub mod take_up;
 
 
 
+
+#[cfg(test)]
+mod tests;

@@ -1,4 +1,5 @@
 ghost use mathlib.Core.Path.{_≡_};
+ghost use Rattle.drives.specs.Laws.{layerOf, both, Play-of-three, No-play};
 ghost use Rattle.drives.specs.Meaning.{answered, pulsed, levelled};
 ghost use Rattle.drives.specs.Stage.{turned};
 ghost use Rattle.drives.specs.TakeUp.{fits, layered, beneath, Laid};
@@ -8,6 +9,13 @@ use crate::drive::Drive;
 use crate::fault::DriveFault;
 use crate::fault::Refusal;
 use crate::send::send;
+
+/// What a layer and the drive below it count: a carriage and its screw.
+#[derive(Clone, Copy, PartialEq, Eq, Debug)]
+pub struct Counts {
+    pub layer: i64,
+    pub below: i64,
+}
 
 /// A layer over any drive that takes up the play of its screw: where a pulse
 /// turns the flank, the play is sent below first.
@@ -30,11 +38,20 @@ impl<D: Drive> TakeUp<D> {
         Ok(TakeUp { below, play, flank: Direction::Forward })
     }
 
-    /// The drive below: for a screw with play, what the screw has turned.
+    /// The drive below.
     pub fn below(&self) -> &D
         ensures { λ r. ⌜ now r ≡ now (self .entry) .below ⌝ }
     {
         &self.below
+    }
+
+    /// The counts of the layer and of the drive below.
+    pub fn counts(&self) -> Counts
+        ensures value { λ r. ⌜ r ≡ both (layerOf (D·Drive .meaning) (now (self .entry))) ⌝ }
+        ensures example { λ _. ⌜ Play-of-three ⌝ }
+        ensures unplayed { λ _. ⌜ No-play ⌝ }
+    {
+        Counts { layer: self.count(), below: self.below.count() }
     }
 
     pub fn play(&self) -> u16
