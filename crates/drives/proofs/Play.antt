@@ -76,31 +76,10 @@ owed b d f m r x s h o p q =
     record {
       value = rok ∙ sym ok;
       after =
-        ap (layer b d) (q ∙ all-sent d k m s h w)
-        ∙ (open-is b d (at (gone d k m) m) (next-fits b d f m s ft ra)
-        ∙ (ap (λ (n : ℤ). at n (above b f m)) (next-count b d f m)
-        ∙ (sym (goes d (above b f m) h ra) ∙ ap (pulsed d) (sym is))));
+          ap (layer b d) (q ∙ all-sent d k m s h w)
+          ∙ (open-is b d (at (gone d k m) m) (next-fits b d f m s ft ra)
+          ∙ (ap (λ (n : ℤ). at n (above b f m)) (next-count b d f m)
+          ∙ (sym (goes d (above b f m) h ra) ∙ ap (pulsed d) (sym is))));
       below = q ∙ ap (λ (a : Result (Unit {0}) Refusal). cond (isOk a) (sent d k m) m) (sym ok);
-      flank = ap (λ (a : Result (Unit {0}) Refusal). turned a d f) (sym rok) }
-
-passed-along : (b : ℕ) (d : Direction) → 1 ≡ passed b d d
-passed-along b Forward = refl
-passed-along b Backward = refl
-
-passed-against : (b : ℕ) (d f : Direction) → (d ≡ f → ⊥) → b + 1 ≡ passed b d f
-passed-against b Forward Forward n = absurd (n refl)
-passed-against b Backward Backward n = absurd (n refl)
-passed-against b Forward Backward n = refl
-passed-against b Backward Forward n = refl
-
--- a pulse along the flank
-pub owed-along : (b : ℕ) (d f : Direction) (m : Meaning) (r : Result (Unit {0}) Refusal) (x : Meaning) → Sound m → m .ready ≡ true → room d (layer b f m) ≡ true → d ≡ f → r ≡ answered d m → x ≡ pulsed d m → Owed b d f m r x
-owed-along b d f m r x s h o e p q =
-    let one-passed : 1 ≡ passed b d f = passed-along b d ∙ ap (passed b d) e in
-    owed b d f m r x s h o (p ∙ ap (λ (n : ℕ). told d n m) one-passed) (q ∙ ap (λ (n : ℕ). sent d n m) one-passed)
-
--- a pulse against it
-pub owed-against : (b : ℕ) (d f : Direction) (m : Meaning) (r : Result (Unit {0}) Refusal) (x : Meaning) → Sound m → m .ready ≡ true → room d (layer b f m) ≡ true → (d ≡ f → ⊥) → r ≡ told d (b + 1) m → x ≡ sent d (b + 1) m → Owed b d f m r x
-owed-against b d f m r x s h o n p q =
-    let all-passed : b + 1 ≡ passed b d f = passed-against b d f n in
-    owed b d f m r x s h o (p ∙ ap (λ (n : ℕ). told d n m) all-passed) (q ∙ ap (λ (n : ℕ). sent d n m) all-passed)
+      flank = ap (λ (a : Result (Unit {0}) Refusal). turned a d f) (sym rok);
+    }

@@ -11,9 +11,5 @@ pub mod fault;
 pub mod replay;
 pub mod send;
 pub mod take_up;
-
-
-
-
 #[cfg(test)]
 mod tests;

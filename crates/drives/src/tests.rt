@@ -1,6 +1,6 @@
 use crate::clock_stage::ClockStage;
+use crate::clock_stage::FARTHEST;
 use crate::clock_stage::drive::ClockStageDrive;
-use crate::clock_stage::drive::FARTHEST;
 use crate::direction::Direction;
 use crate::direction::DirectionDebug;
 use crate::direction::DirectionPartialEq;
@@ -13,7 +13,7 @@ use crate::fault::RefusalDebug;
 use crate::fault::RefusalPartialEq;
 use crate::send::send;
 use crate::take_up::TakeUp;
-use crate::take_up::TakeUpDrive;
+use crate::take_up::drive::TakeUpDrive;
 use std::test::*;
 
 fn stage(count: i64) -> Result<ClockStage, DriveFault> {

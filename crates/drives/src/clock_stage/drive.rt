@@ -1,34 +1,11 @@
 ghost use mathlib.Core.Path.{_≡_};
 ghost use Rattle.drives.specs.Meaning.{answered, pulsed, levelled};
-ghost use Rattle.drives.specs.Stage.{stageOf, turned, Made};
+ghost use Rattle.drives.specs.Stage.{stageOf, turned};
 use crate::clock_stage::ClockStage;
+use crate::clock_stage::FARTHEST;
 use crate::direction::Direction;
 use crate::drive::Drive;
-use crate::fault::DriveFault;
 use crate::fault::Refusal;
-
-/// The ends of a clock stage lie this far from 0 either way.
-pub const FARTHEST: i64 = 1_000_000_000_000;
-
-impl ClockStage {
-    /// A stage at this count, not ready and with its direction level forward;
-    /// refused where the count lies outside the ends.
-    pub fn new(count: i64) -> Result<ClockStage, DriveFault>
-        ensures { λ r. ⌜ Made count r ⌝ }
-    {
-        if count < -FARTHEST || count > FARTHEST {
-            return Err(DriveFault::NotMade);
-        }
-        Ok(ClockStage { count, direction: Direction::Forward, ready: false })
-    }
-
-    /// The direction level: that of the last pulse accepted.
-    pub fn direction(&self) -> Direction
-        ensures { λ r. ⌜ r ≡ now (self .entry) .direction ⌝ }
-    {
-        self.direction
-    }
-}
 
 pub impl Drive for ClockStage as ClockStageDrive {
     ghost meaning = { stageOf };

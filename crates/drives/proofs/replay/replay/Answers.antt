@@ -9,4 +9,5 @@ pub returns : need.returns
 returns g c =
     record {
       after = replayed-all (c .args .acts .now) (c .loop-act .act-index) (g .D·Drive .meaning (c .args .drive .now)) _ (c .loop-act-test .left) (c .loop-act .inv);
-      ends = ends-stay }
+      ends = ends-stay;
+    }

@@ -23,9 +23,10 @@ loop-i-again g c =
     let m = g .D·Drive .meaning in
     let d = c .args .direction in
     let i = c .loop-i .-i in
-    let start = m (c .args .drive .now) in
-    ( c .pulse .ensures .after ∙ (ap (pulsed d) (c .loop-i .inv .0) ∙ sym (sent-more d i start))
-    , told-more d i start ∙ (ap (answered d) (sym (c .loop-i .inv .0)) ∙ (sym (c .pulse .ensures .value) ∙ c .in-Continue-pulse .was tt)))
+    let start = m (c .args .drive .now) in (
+      c .pulse .ensures .after ∙ (ap (pulsed d) (c .loop-i .inv .0) ∙ sym (sent-more d i start)),
+      told-more d i start ∙ (ap (answered d) (sym (c .loop-i .inv .0)) ∙ (sym (c .pulse .ensures .value) ∙ c .in-Continue-pulse .was tt)),
+    )
 
 pub returns : need.returns
 returns g c =

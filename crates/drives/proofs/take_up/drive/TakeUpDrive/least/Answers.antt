@@ -3,7 +3,7 @@ use native.Mathlib.Omega.{arith}
 use Rattle.std.proofs.shelf.Signed.{ints}
 use Rattle.drives.specs.Meaning.{Meaning}
 use Rattle.drives.proofs.Play.{open-is}
-use Rattle.drives.proofs.take_up.TakeUpDrive.least.Needs as need
+use Rattle.drives.proofs.take_up.drive.TakeUpDrive.least.Needs as need
 
 pub add-result : need.add-result
 add-result g c = omega (arith, ints, g .D·Drive·met .sound (c .args .self .now .below))
