@@ -12,9 +12,8 @@ use Rattle.std.specs.declared.result.Result.the-variants.{Ok, Err}
 use Rattle.drives.specs.declared.direction.Direction.{Direction}
 use Rattle.drives.specs.declared.direction.Direction.the-variants.{Forward, Backward}
 use Rattle.drives.specs.declared.fault.Refusal.{Refusal}
-use Rattle.drives.specs.Meaning.{Meaning, Sound, at, one, room, answered, pulsed}
+use Rattle.drives.specs.Meaning.{Meaning, Sound, at, one, room, answered, pulsed, turned}
 use Rattle.drives.specs.Sending.{sent, told}
-use Rattle.drives.specs.Stage.{turned}
 use Rattle.drives.specs.TakeUp.{lead, above, fits, closed, layer, passed, beneath}
 use Rattle.drives.proofs.Sends.{gone, Within, accepts, all-sent, all-told}
 

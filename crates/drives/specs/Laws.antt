@@ -10,8 +10,8 @@ use Rattle.drives.specs.declared.take_up.Counts.{Counts}
 use Rattle.drives.specs.declared.take_up.TakeUp.{TakeUp}
 use Rattle.drives.specs.declared.replay.Act.{Act}
 use Rattle.drives.specs.declared.replay.Act.the-variants.{Pulse, Level}
-use Rattle.drives.specs.Meaning.{Meaning, Sound, answered, pulsed, levelled}
-use Rattle.drives.specs.Stage.{stageAt, turned}
+use Rattle.drives.specs.Meaning.{Meaning, Sound, answered, pulsed, levelled, turned}
+use Rattle.drives.specs.Stage.{stageAt}
 use Rattle.drives.specs.TakeUp.{layer, beneath}
 
 -- what one act, and a list of acts, makes of a drive

@@ -54,3 +54,8 @@ pulsed d m = cond (m .ready) (cond (room d m) (at (m .count +ℤ one d) m) m) m
 -- what a level leaves
 abbrev pub levelled : Bool → Meaning → Meaning
 levelled b m = record { count = m .count; least = m .least; greatest = m .greatest; ready = b }
+
+-- a direction that is kept, after a pulse: an accepted pulse turns it
+abbrev pub turned : Result (Unit {0}) Refusal → Direction → Direction → Direction
+turned (Ok _) d f = d
+turned (Err _) d f = f

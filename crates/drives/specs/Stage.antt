@@ -10,7 +10,6 @@ use Rattle.drives.specs.declared.direction.Direction.the-variants.{Forward}
 use Rattle.drives.specs.declared.clock_stage.ClockStage.{ClockStage}
 use Rattle.drives.specs.declared.fault.DriveFault.{DriveFault}
 use Rattle.drives.specs.declared.fault.DriveFault.the-variants.{NotMade}
-use Rattle.drives.specs.declared.fault.Refusal.{Refusal}
 use Rattle.drives.specs.Meaning.{Meaning, lowest, highest}
 
 -- a stage at a count, ready or not: its ends are the widest
@@ -29,8 +28,3 @@ outside n = ltZ n lowest || ltZ highest n
 abbrev pub Made : ℤ → Result ClockStage DriveFault → Type 0
 Made n (Ok s) = (outside n ≡ false) × (stageOf s ≡ stageAt n false) × (s .direction ≡ Forward)
 Made n (Err e) = (outside n ≡ true) × (e ≡ NotMade)
-
--- a direction that is kept, after a pulse: an accepted pulse turns it
-abbrev pub turned : Result (Unit {0}) Refusal → Direction → Direction → Direction
-turned (Ok _) d f = d
-turned (Err _) d f = f

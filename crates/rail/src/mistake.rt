@@ -12,6 +12,7 @@ pub enum Field {
     Play,
     StageCount,
     Stage,
+    Measure,
 }
 
 pub impl fmt::Display for Field as FieldDisplay {
@@ -26,6 +27,7 @@ pub impl fmt::Display for Field as FieldDisplay {
             Field::Play => "PLAY, a number from 0 to 65535",
             Field::StageCount => "COUNT, a signed number of 64 bits",
             Field::Stage => "clock or takeup",
+            Field::Measure => "MEASURE: mm, inch or degree",
         };
         f.write_str(text)
     }

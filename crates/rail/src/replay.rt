@@ -4,6 +4,8 @@ use crate::bench::Bench;
 use crate::bench::Plan;
 use crate::mistake::Mistake;
 use crate::mistake::MistakeDisplay;
+use crate::reading::Reading;
+use crate::reading::ReadingDisplay;
 use crate::script::Call;
 use crate::script::Line;
 use crate::script::read_line;
@@ -55,6 +57,10 @@ pub fn replay(rt: &LibcRuntime, lines: &[&[u8]], explain: bool) -> Result<(), St
                 calling = true;
                 answer(rt, &mut bench, call, explain)?;
             }
+            Line::Read { measure, text } => {
+                calling = true;
+                show(rt, &bench, Reading::of(text, measure), explain)?;
+            }
             Line::Drive { .. } if calling => return Err(mistake_at(i, Mistake::DriveAfterCall)),
             _ => {}
         }
@@ -71,7 +77,7 @@ fn plan_drives(lines: &[&[u8]]) -> Result<Plan, Stop> {
     for (i, line) in lines.iter().enumerate() {
         match read(*line, i)? {
             Line::Passed => {}
-            Line::Call(_) => break,
+            Line::Call(_) | Line::Read { .. } => break,
             Line::Drive { axis, build } => {
                 if let Err(mistake) = plan.add(axis, build) {
                     return Err(mistake_at(i, mistake));
@@ -82,7 +88,7 @@ fn plan_drives(lines: &[&[u8]]) -> Result<Plan, Stop> {
     Ok(plan)
 }
 
-fn read(line: &[u8], index: usize) -> Result<Line, Stop> {
+fn read<'a>(line: &'a [u8], index: usize) -> Result<Line<'a>, Stop> {
     match read_line(line) {
         Ok(read) => Ok(read),
         Err(mistake) => Err(mistake_at(index, mistake)),
@@ -107,6 +113,16 @@ fn answer(rt: &LibcRuntime, bench: &mut Bench, call: Call, explain: bool) -> Res
             Some(position) => println!(rt, "  axis {axis}: {position}")?,
             None => println!(rt, "  there is no axis {axis}")?,
         }
+    }
+    Ok(())
+}
+
+fn show(rt: &LibcRuntime, bench: &Bench, reading: Reading, explain: bool) -> Result<(), AnyError> {
+    let (x, y, z) = bench.counts();
+    println!(rt, "{reading} | {x} {y} {z}")?;
+    if explain {
+        let words = reading.in_words();
+        println!(rt, "  {words}")?;
     }
     Ok(())
 }

@@ -5,14 +5,17 @@ use crate::mistake::Field;
 use crate::mistake::Mistake;
 use crate::words::Words;
 use drives::direction::Direction;
+use units::Measure;
 
 /// One line of a script.
 #[derive(Clone, Copy)]
-pub enum Line {
+pub enum Line<'a> {
     /// An empty line or a remark.
     Passed,
     Drive { axis: u8, build: Build },
     Call(Call),
+    /// A program line for the reader alone, in a program without blocks.
+    Read { measure: Measure, text: &'a [u8] },
 }
 
 /// What is asked of an axis.
@@ -41,7 +44,7 @@ impl Call {
 }
 
 /// Reads a line of the script, its end left off.
-pub fn read_line(line: &[u8]) -> Result<Line, Mistake> {
+pub fn read_line<'a>(line: &'a [u8]) -> Result<Line<'a>, Mistake> {
     if let [] | [b'#', ..] = line {
         return Ok(Line::Passed);
     }
@@ -50,13 +53,20 @@ pub fn read_line(line: &[u8]) -> Result<Line, Mistake> {
         Some(b"drive") => read_drive(&mut words)?,
         Some(b"levels") => Line::Call(read_levels(&mut words)?),
         Some(b"pulse") => Line::Call(read_pulse(&mut words)?),
+        Some(b"read") => {
+            let measure = read_measure(&mut words)?;
+            return Ok(Line::Read {
+                measure,
+                text: words.text(),
+            });
+        }
         _ => return Err(Mistake::UnknownCall),
     };
     words.end()?;
     Ok(read)
 }
 
-fn read_drive(words: &mut Words) -> Result<Line, Mistake> {
+fn read_drive<'a>(words: &mut Words) -> Result<Line<'a>, Mistake> {
     let axis = words.u8(Field::Axis)?;
     let build = read_build(words)?;
     Ok(Line::Drive { axis, build })
@@ -116,4 +126,13 @@ fn read_pulse(words: &mut Words) -> Result<Call, Mistake> {
         direction,
         pulses,
     })
+}
+
+fn read_measure(words: &mut Words) -> Result<Measure, Mistake> {
+    match words.word(Field::Measure)? {
+        b"mm" => Ok(Measure::Millimetre),
+        b"inch" => Ok(Measure::Inch),
+        b"degree" => Ok(Measure::Degree),
+        _ => Err(Mistake::Expected(Field::Measure)),
+    }
 }

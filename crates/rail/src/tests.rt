@@ -7,7 +7,7 @@ use crate::mistake::MistakePartialEq;
 use crate::script::read_line;
 use std::test::*;
 
-const READ: [&[u8]; 14] = [
+const READ: [&[u8]; 17] = [
     b"",
     b"# a remark",
     b"#",
@@ -22,9 +22,12 @@ const READ: [&[u8]; 14] = [
     b"pulse 1 backward 4294967295",
     b"pulse 001 forward 0",
     b"pulse 1 forward -0",
+    b"read mm",
+    b"read inch  two blanks and a return\r",
+    b"read degree \xff",
 ];
 
-const REFUSED: [(&[u8], Mistake); 24] = [
+const REFUSED: [(&[u8], Mistake); 26] = [
     (b" levels 1 0 0 1", Mistake::UnknownCall),
     (b"level 1 0 0 1", Mistake::UnknownCall),
     (b"Levels 1 0 0 1", Mistake::UnknownCall),
@@ -46,6 +49,8 @@ const REFUSED: [(&[u8], Mistake); 24] = [
         Mistake::Expected(Field::Pulses),
     ),
     (b"pulse 1 forward 1 1", Mistake::TooManyWords),
+    (b"read", Mistake::Missing(Field::Measure)),
+    (b"read cm X1", Mistake::Expected(Field::Measure)),
     (b"drive 1", Mistake::Missing(Field::Stage)),
     (b"drive 1 stepper 0", Mistake::Expected(Field::Stage)),
     (

@@ -95,6 +95,11 @@ impl<'a> Words<'a> {
         }
     }
 
+    /// All that follows the blank after the last word, or nothing.
+    pub fn text(&self) -> &'a [u8] {
+        self.rest.unwrap_or(&[])
+    }
+
     pub fn end(&self) -> Result<(), Mistake> {
         match self.rest {
             Some(_) => Err(Mistake::TooManyWords),

@@ -1,6 +1,6 @@
 ghost use mathlib.Core.Path.{_≡_};
-ghost use Rattle.drives.specs.Meaning.{answered, pulsed, levelled};
-ghost use Rattle.drives.specs.Stage.{stageOf, turned};
+ghost use Rattle.drives.specs.Meaning.{answered, pulsed, levelled, turned};
+ghost use Rattle.drives.specs.Stage.{stageOf};
 use crate::clock_stage::ClockStage;
 use crate::clock_stage::FARTHEST;
 use crate::direction::Direction;

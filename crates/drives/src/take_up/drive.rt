@@ -1,6 +1,5 @@
 ghost use mathlib.Core.Path.{_≡_};
-ghost use Rattle.drives.specs.Meaning.{answered, pulsed, levelled};
-ghost use Rattle.drives.specs.Stage.{turned};
+ghost use Rattle.drives.specs.Meaning.{answered, pulsed, levelled, turned};
 ghost use Rattle.drives.specs.TakeUp.{layered, beneath};
 use crate::direction::Direction;
 use crate::drive::Drive;

@@ -1,0 +1,9 @@
+pub mod Ints
+pub mod Curve
+pub mod Both
+pub mod Way
+pub mod Choice
+pub mod Rising
+pub mod Drift
+pub mod Runs
+pub mod Speed

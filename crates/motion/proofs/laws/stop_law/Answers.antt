@@ -1,0 +1,5 @@
+use Rattle.motion.proofs.Runs.{stops}
+use Rattle.motion.proofs.laws.stop_law.Needs as need
+
+pub returns : need.returns
+returns c = stops

@@ -1,0 +1,10 @@
+pub mod Ramp
+pub mod Data
+pub mod Places
+pub mod Faults
+pub mod Questions
+pub mod Entry
+pub mod Travel
+pub mod View
+pub mod Laws
+pub mod Examples

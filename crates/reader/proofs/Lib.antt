@@ -1,0 +1,12 @@
+pub mod Fronts
+pub mod Numbers
+pub mod Cuts
+pub mod Tables
+pub mod Passes
+pub mod Runs
+pub mod Forms
+pub mod Readings
+pub mod Firsts
+pub mod Blocks
+pub mod Sayings
+pub mod Verdicts
