@@ -6,6 +6,7 @@
 mod axis;
 mod bench;
 mod mistake;
+mod programs;
 mod reading;
 mod replay;
 mod script;

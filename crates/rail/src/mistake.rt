@@ -13,6 +13,7 @@ pub enum Field {
     StageCount,
     Stage,
     Measure,
+    Number,
 }
 
 pub impl fmt::Display for Field as FieldDisplay {
@@ -28,6 +29,7 @@ pub impl fmt::Display for Field as FieldDisplay {
             Field::StageCount => "COUNT, a signed number of 64 bits",
             Field::Stage => "clock or takeup",
             Field::Measure => "MEASURE: mm, inch or degree",
+            Field::Number => "NUMBER, a number from 0 to 255",
         };
         f.write_str(text)
     }

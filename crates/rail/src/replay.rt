@@ -4,14 +4,16 @@ use crate::bench::Bench;
 use crate::bench::Plan;
 use crate::mistake::Mistake;
 use crate::mistake::MistakeDisplay;
+use crate::programs::ProgramReply;
+use crate::programs::ProgramReplyDisplay;
 use crate::reading::Reading;
 use crate::reading::ReadingDisplay;
-use crate::script::Call;
 use crate::script::Line;
 use crate::script::read_line;
 use drives::fault::DriveFault;
 use std::error::AnyError;
 use std::fmt;
+use store::Store;
 
 /// Why a script was not run to its end.
 #[derive(Drop)]
@@ -46,29 +48,30 @@ pub impl From<AnyError> for Stop as StopFromAnyError {
     }
 }
 
-/// Makes the drives, then each call in turn, and prints its answer.
+/// Makes the drives and the store, then each call in turn, and prints its answer.
 pub fn replay(rt: &LibcRuntime, lines: &[&[u8]], explain: bool) -> Result<(), Stop> {
     let plan = plan_drives(lines)?;
     let mut bench = Bench::new(plan)?;
+    let mut store = new_store(rt)?;
     let mut calling = false;
     for (i, line) in lines.iter().enumerate() {
-        match read(*line, i)? {
-            Line::Call(call) => {
-                calling = true;
-                answer(rt, &mut bench, call, explain)?;
-            }
-            Line::Read { measure, text } => {
-                calling = true;
-                show(rt, &bench, Reading::of(text, measure), explain)?;
-            }
-            Line::Drive { .. } if calling => return Err(mistake_at(i, Mistake::DriveAfterCall)),
-            _ => {}
+        let read = read(*line, i)?;
+        if let Line::Drive { .. } = read
+            && calling
+        {
+            return Err(mistake_at(i, Mistake::DriveAfterCall));
         }
+        calling = calling || read.is_call();
+        answer(rt, &mut bench, &mut store, read, explain)?;
     }
     if explain {
         account(rt, &bench)?;
     }
     Ok(())
+}
+
+fn new_store(rt: &LibcRuntime) -> Result<Store, AnyError> {
+    Ok(Store::new(rt.alloc())?)
 }
 
 // The drive lines before the first call.
@@ -77,12 +80,12 @@ fn plan_drives(lines: &[&[u8]]) -> Result<Plan, Stop> {
     for (i, line) in lines.iter().enumerate() {
         match read(*line, i)? {
             Line::Passed => {}
-            Line::Call(_) | Line::Read { .. } => break,
             Line::Drive { axis, build } => {
                 if let Err(mistake) = plan.add(axis, build) {
                     return Err(mistake_at(i, mistake));
                 }
             }
+            _ => break,
         }
     }
     Ok(plan)
@@ -103,26 +106,61 @@ fn mistake_at(index: usize, mistake: Mistake) -> Stop {
     }
 }
 
-fn answer(rt: &LibcRuntime, bench: &mut Bench, call: Call, explain: bool) -> Result<(), AnyError> {
-    let reply = bench.call(call);
-    let (x, y, z) = bench.counts();
-    println!(rt, "{reply} | {x} {y} {z}")?;
-    if explain {
-        let axis = call.axis();
-        match bench.position(axis) {
-            Some(position) => println!(rt, "  axis {axis}: {position}")?,
-            None => println!(rt, "  there is no axis {axis}")?,
+// What is said to a line that is a call.
+fn answer(
+    rt: &LibcRuntime,
+    bench: &mut Bench,
+    store: &mut Store,
+    line: Line,
+    explain: bool,
+) -> Result<(), AnyError> {
+    match line {
+        Line::Passed | Line::Drive { .. } => Ok(()),
+        Line::Call(call) => {
+            let reply = bench.call(call);
+            show(rt, bench, &reply)?;
+            if explain {
+                place(rt, bench, call.axis())
+            } else {
+                Ok(())
+            }
+        }
+        Line::Read { measure, text } => {
+            let reading = Reading::of(text, measure);
+            show(rt, bench, &reading)?;
+            if explain {
+                say(rt, reading.in_words())
+            } else {
+                Ok(())
+            }
+        }
+        Line::Program(call) => {
+            let reply = ProgramReply::to(call, store);
+            show(rt, bench, &reply)?;
+            if explain {
+                say(rt, reply.in_words())
+            } else {
+                Ok(())
+            }
         }
     }
+}
+
+fn show<T: fmt::Display>(rt: &LibcRuntime, bench: &Bench, reply: &T) -> Result<(), AnyError> {
+    let (x, y, z) = bench.counts();
+    println!(rt, "{reply} | {x} {y} {z}")?;
     Ok(())
 }
 
-fn show(rt: &LibcRuntime, bench: &Bench, reading: Reading, explain: bool) -> Result<(), AnyError> {
-    let (x, y, z) = bench.counts();
-    println!(rt, "{reading} | {x} {y} {z}")?;
-    if explain {
-        let words = reading.in_words();
-        println!(rt, "  {words}")?;
+fn say(rt: &LibcRuntime, words: &str) -> Result<(), AnyError> {
+    println!(rt, "  {words}")?;
+    Ok(())
+}
+
+fn place(rt: &LibcRuntime, bench: &Bench, axis: u8) -> Result<(), AnyError> {
+    match bench.position(axis) {
+        Some(position) => println!(rt, "  axis {axis}: {position}")?,
+        None => println!(rt, "  there is no axis {axis}")?,
     }
     Ok(())
 }

@@ -16,6 +16,26 @@ pub enum Line<'a> {
     Call(Call),
     /// A program line for the reader alone, in a program without blocks.
     Read { measure: Measure, text: &'a [u8] },
+    Program(ProgramCall<'a>),
+}
+
+impl Line<'_> {
+    /// Whether the line is a call; `read` counts as one.
+    pub fn is_call(&self) -> bool {
+        match self {
+            Line::Passed | Line::Drive { .. } => false,
+            Line::Call(_) | Line::Read { .. } | Line::Program(_) => true,
+        }
+    }
+}
+
+/// What is asked of the program store; the entry goes by its number.
+#[derive(Clone, Copy)]
+pub enum ProgramCall<'a> {
+    Open { number: u8, measure: Measure },
+    Add { number: u8, text: &'a [u8] },
+    Close { number: u8 },
+    Abandon { number: u8 },
 }
 
 /// What is asked of an axis.
@@ -55,10 +75,22 @@ pub fn read_line<'a>(line: &'a [u8]) -> Result<Line<'a>, Mistake> {
         Some(b"pulse") => Line::Call(read_pulse(&mut words)?),
         Some(b"read") => {
             let measure = read_measure(&mut words)?;
-            return Ok(Line::Read {
-                measure,
-                text: words.text(),
-            });
+            let text = words.take_text();
+            Line::Read { measure, text }
+        }
+        Some(b"open") => Line::Program(read_open(&mut words)?),
+        Some(b"add") => {
+            let number = words.u8(Field::Number)?;
+            let text = words.take_text();
+            Line::Program(ProgramCall::Add { number, text })
+        }
+        Some(b"close") => {
+            let number = words.u8(Field::Number)?;
+            Line::Program(ProgramCall::Close { number })
+        }
+        Some(b"abandon") => {
+            let number = words.u8(Field::Number)?;
+            Line::Program(ProgramCall::Abandon { number })
         }
         _ => return Err(Mistake::UnknownCall),
     };
@@ -135,4 +167,10 @@ fn read_measure(words: &mut Words) -> Result<Measure, Mistake> {
         b"degree" => Ok(Measure::Degree),
         _ => Err(Mistake::Expected(Field::Measure)),
     }
+}
+
+fn read_open<'a>(words: &mut Words) -> Result<ProgramCall<'a>, Mistake> {
+    let number = words.u8(Field::Number)?;
+    let measure = read_measure(words)?;
+    Ok(ProgramCall::Open { number, measure })
 }

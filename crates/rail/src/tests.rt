@@ -7,7 +7,7 @@ use crate::mistake::MistakePartialEq;
 use crate::script::read_line;
 use std::test::*;
 
-const READ: [&[u8]; 17] = [
+const READ: [&[u8]; 22] = [
     b"",
     b"# a remark",
     b"#",
@@ -25,9 +25,14 @@ const READ: [&[u8]; 17] = [
     b"read mm",
     b"read inch  two blanks and a return\r",
     b"read degree \xff",
+    b"open 0 mm",
+    b"add 255",
+    b"add 7  N10 X1 ",
+    b"close 7",
+    b"abandon 007",
 ];
 
-const REFUSED: [(&[u8], Mistake); 26] = [
+const REFUSED: [(&[u8], Mistake); 31] = [
     (b" levels 1 0 0 1", Mistake::UnknownCall),
     (b"level 1 0 0 1", Mistake::UnknownCall),
     (b"Levels 1 0 0 1", Mistake::UnknownCall),
@@ -51,6 +56,11 @@ const REFUSED: [(&[u8], Mistake); 26] = [
     (b"pulse 1 forward 1 1", Mistake::TooManyWords),
     (b"read", Mistake::Missing(Field::Measure)),
     (b"read cm X1", Mistake::Expected(Field::Measure)),
+    (b"open 7", Mistake::Missing(Field::Measure)),
+    (b"open 256 mm", Mistake::Expected(Field::Number)),
+    (b"add", Mistake::Missing(Field::Number)),
+    (b"close 7 ", Mistake::TooManyWords),
+    (b"delete 7", Mistake::UnknownCall),
     (b"drive 1", Mistake::Missing(Field::Stage)),
     (b"drive 1 stepper 0", Mistake::Expected(Field::Stage)),
     (

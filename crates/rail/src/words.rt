@@ -95,9 +95,11 @@ impl<'a> Words<'a> {
         }
     }
 
-    /// All that follows the blank after the last word, or nothing.
-    pub fn text(&self) -> &'a [u8] {
-        self.rest.unwrap_or(&[])
+    /// All that follows the blank after the last word, or nothing. The line is then at its end.
+    pub fn take_text(&mut self) -> &'a [u8] {
+        let text = self.rest.unwrap_or(&[]);
+        self.rest = None;
+        text
     }
 
     pub fn end(&self) -> Result<(), Mistake> {

@@ -1,0 +1,4 @@
+mod Tables
+mod Closings
+mod Histories
+mod Laws
