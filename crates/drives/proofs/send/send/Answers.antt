@@ -5,14 +5,14 @@ use Rattle.drives.specs.Sending.{sent, told}
 use Rattle.drives.proofs.Sends.{sent-more, told_more, refused-at, reach}
 use Rattle.drives.proofs.send.send.Goals as goal
 
-pub returns-in-err-pulse : goal.returns-in-err-pulse
-returns-in-err-pulse g c =
+pub returns-in_err-pulse : goal.returns-in_err-pulse
+returns-in_err-pulse g c =
     let m = g.D.Drive.meaning in
     let start = m c.args.drive.now in
     let d = c.args.direction in
     let k = c.args.pulses in
-    let p = err_from_is_err_and c.from-residual.result c.from-residual.ensures.1 in
-    let o = refused-at d c.loop-i.-i k start (m c.loop-i.drive) c.in-err-pulse.field-0.0 c.loop-i.invariant.0 (sym c.pulse.ensures.value ∙ c.in-err-pulse.was) c.loop-i-test.true in
+    let p = err_from_is_err_and c.from_residual.result c.from_residual.ensures.1 in
+    let o = refused-at d c.loop-i._i k start (m c.loop-i.drive) c.in_err-pulse.field-0.0 c.loop-i.invariant.0 (sym c.pulse.ensures.value ∙ c.in_err-pulse.was) c.loop-i-test.true in
     let after = c.pulse.ensures.after ∙ o.1 in
     record { value = p.1 ∙ (ap Err p.2 ∙ sym o.0); after = after; reach = after ∙ reach d k start (g.met.D.Drive.sound c.args.drive.now) }
 
@@ -20,10 +20,10 @@ pub loop-i-preserved : goal.loop-i-preserved
 loop-i-preserved g c =
     let m = g.D.Drive.meaning in
     let d = c.args.direction in
-    let i = c.loop-i.-i in
+    let i = c.loop-i._i in
     let start = m c.args.drive.now in (
       c.pulse.ensures.after ∙ (ap (pulsed d) c.loop-i.invariant.0 ∙ sym (sent-more d i start)),
-      told_more d i start ∙ (ap (answered d) (sym c.loop-i.invariant.0) ∙ (sym c.pulse.ensures.value ∙ c.in-ok-pulse.was)),
+      told_more d i start ∙ (ap (answered d) (sym c.loop-i.invariant.0) ∙ (sym c.pulse.ensures.value ∙ c.in_ok-pulse.was)),
     )
 
 pub returns : goal.returns
@@ -32,6 +32,6 @@ returns g c =
     let start = m c.args.drive.now in
     let d = c.args.direction in
     let k = c.args.pulses in
-    let all : c.loop-i.-i ≡ k = omega arith in
+    let all : c.loop-i._i ≡ k = omega arith in
     let after = c.loop-i.invariant.0 ∙ ap (λ n. sent d n start) all in
     record { value = sym c.loop-i.invariant.1 ∙ ap (λ n. told d n start) all; after = after; reach = after ∙ reach d k start (g.met.D.Drive.sound c.args.drive.now) }

@@ -6,4 +6,4 @@ use Rattle.drives.proofs.send.send.Given as goal
 abbrev pub invariant-loop-i : goal.invariant-loop-i
 invariant-loop-i g l =
     let m = g.D.Drive.meaning in
-    (m l.drive ≡ sent l.direction l.-i (m l.initial.drive)) × (told l.direction l.-i (m l.initial.drive) ≡ Ok tt)
+    (m l.drive ≡ sent l.direction l._i (m l.initial.drive)) × (told l.direction l._i (m l.initial.drive) ≡ Ok tt)

@@ -9,8 +9,8 @@ use Rattle.motion.proofs.places.held_between.Goals as goal
 wide : (z : ℤ) → SFits w32 z → to_z w128 (of_z w128 (to_z w32 (of_z w32 z))) ≡ z
 wide z f = omega (arith, ints)
 
-pub overflow-cast-result : goal.overflow-cast-result
-overflow-cast-result c = omega (arith, ints, clamps)
+pub overflow_cast-result : goal.overflow_cast-result
+overflow_cast-result c = omega (arith, ints, clamps)
 
 pub returns : goal.returns
 returns c =

@@ -14,8 +14,8 @@ is c =
 small : (c : goal.After-rounded) → SFits w64 c.rounded.result
 small c = subst (SFits w64) (sym (is c)) (pulses_fit c.args.c c.args.k c.args.j c.ranges.c c.requires.few c.requires.greatest)
 
-pub overflow-cast-result : goal.overflow-cast-result
-overflow-cast-result c = let f = small c in omega (arith, ints)
+pub overflow_cast-result : goal.overflow_cast-result
+overflow_cast-result c = let f = small c in omega (arith, ints)
 
 pub returns : goal.returns
 returns c =

@@ -7,7 +7,7 @@ pub loop-b-preserved : goal.loop-b-preserved
 loop-b-preserved c = search (rules, onto-more)
 
 pub returns-then-n-most : goal.returns-then-n-most
-returns-then-n-most c = record { value = past_most _ _ _ _ _ _ c.loop-b-test.true c.loop-b.invariant.1 (c.from.ensures ∙ c.saturating-sub.ensures) c.if-n-most.true; bound = tt }
+returns-then-n-most c = record { value = past_most _ _ _ _ _ _ c.loop-b-test.true c.loop-b.invariant.1 (c.from.ensures ∙ c.saturating_sub.ensures) c.if-n-most.true; bound = tt }
 
 pub returns : goal.returns
 returns c = record {

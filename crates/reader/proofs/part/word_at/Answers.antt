@@ -3,8 +3,8 @@ use Rattle.std.proofs.lemmas.List.Sums.{prefix_len-le-length}
 use Rattle.reader.proofs.Cuts.{cut_word}
 use Rattle.reader.proofs.part.word_at.Goals as goal
 
-pub split-at-requires : goal.split-at-requires
-split-at-requires c = search (rules, prefix_len-le-length)
+pub split_at-requires : goal.split_at-requires
+split_at-requires c = search (rules, prefix_len-le-length)
 
 pub returns : goal.returns
-returns c = cut_word _ _ _ _ _ _ _ _ c.requires.1.0 c.requires.1.1 c.in-Some.ensures c.count.ensures c.split-at.ensures.front c.split-at.ensures.back c.if-not-well-formed.ensures
+returns c = cut_word _ _ _ _ _ _ _ _ c.requires.1.0 c.requires.1.1 c.in-Some.ensures c.count.ensures c.split_at.ensures.front c.split_at.ensures.back c.if-not-well_formed.ensures

@@ -5,8 +5,8 @@ use Rattle.drives.specs.declared.direction.Direction.TheVariants.{Forward}
 use Rattle.drives.proofs.Play.{open_is}
 use Rattle.drives.proofs.take_up.TakeUp.new.Goals as goal
 
-pub overflow-add-least : goal.overflow-add-least
-overflow-add-least g c = omega (arith, ints, g.met.D.Drive.sound c.args.below)
+pub overflow_add-least : goal.overflow_add-least
+overflow_add-least g c = omega (arith, ints, g.met.D.Drive.sound c.args.below)
 
 pub returns : goal.returns
 returns g c =

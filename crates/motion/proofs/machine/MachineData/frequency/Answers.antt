@@ -20,4 +20,4 @@ reads m step place e =
     (cases_lt (step - 1) 4095)
 
 pub returns : goal.returns
-returns c = reads c.args.self.now c.args.step c.place-of.result c.place-of.ensures
+returns c = reads c.args.self.now c.args.step c.place_of.result c.place_of.ensures

@@ -10,8 +10,8 @@ few Millimetre = omega arith
 few Inch = omega arith
 few Degree = omega arith
 
-pub overflow-mul-result : goal.overflow-mul-result
-overflow-mul-result c =
-    let u : c.units-in.result ≤ 10000 = omega (arith, c.units-in.ensures.value, few c.args.self.now.values.measure) in
-    let p = mul-le c.args.speed c.units-in.result 65535 10000 (omega arith) u in
-    omega (arith, mul-le (c.args.speed * c.units-in.result * 1000) c.args.self.now.values.pulses 655350000000 10000 (omega arith) (omega arith))
+pub overflow_mul-result : goal.overflow_mul-result
+overflow_mul-result c =
+    let u : c.units_in.result ≤ 10000 = omega (arith, c.units_in.ensures.value, few c.args.self.now.values.measure) in
+    let p = mul-le c.args.speed c.units_in.result 65535 10000 (omega arith) u in
+    omega (arith, mul-le (c.args.speed * c.units_in.result * 1000) c.args.self.now.values.pulses 655350000000 10000 (omega arith) (omega arith))

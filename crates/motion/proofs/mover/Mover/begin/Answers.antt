@@ -3,9 +3,17 @@ use Rattle.motion.specs.Ramp.{ramp_of}
 use Rattle.motion.proofs.Way.{way-none}
 use Rattle.motion.proofs.mover.Mover.begin.Goals as goal
 
-pub invariant-of-self : goal.invariant-of-self
-invariant-of-self c =
+pub invariant_of-self : goal.invariant_of-self
+invariant_of-self c =
     let m = c.args.self.now in
     let z = way-none (ramp_of m.machine.values) c.max-self.result in
     let h = m.machine.frequencies in
-    (omega arith, (omega arith, (omega arith, (omega arith, (omega arith, (sym z, (omega arith, tt)))))))
+    record {
+      slowest = omega arith;
+      fastest = omega arith;
+      steps = omega arith;
+      longest = omega arith;
+      within = omega arith;
+      summed = sym z;
+      safe = omega arith;
+    }

@@ -4,8 +4,8 @@ use Rattle.drives.specs.Meaning.{Meaning}
 use Rattle.drives.proofs.Play.{open_is}
 use Rattle.drives.proofs.take_up.drive.TakeUpDrive.least.Goals as goal
 
-pub overflow-add-result : goal.overflow-add-result
-overflow-add-result g c = omega (arith, ints, g.met.D.Drive.sound c.args.self.now.below)
+pub overflow_add-result : goal.overflow_add-result
+overflow_add-result g c = omega (arith, ints, g.met.D.Drive.sound c.args.self.now.below)
 
 pub returns : goal.returns
 returns g c =
