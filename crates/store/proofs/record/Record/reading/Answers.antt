@@ -9,8 +9,8 @@ unfolding read
 returns c =
     let e : c.len.result ≡ length (vec_items c.args.self.now.blocks) = search rules in
     record {
-      value = c.read-line.ensures.value ∙ ap (λ k. verdict c.args.self.now.measure k c.args.line.now) e;
+      value = c.read_line.ensures.value ∙ ap (λ k. verdict c.args.self.now.measure k c.args.line.now) e;
       room = λ b said.
-          let a : Answers c.args.self.now.measure c.len.result c.args.line.now (Ok (Some b)) = subst (λ r. Answers c.args.self.now.measure c.len.result c.args.line.now r) said c.read-line.ensures.answer.0 in
+          let a : Answers c.args.self.now.measure c.len.result c.args.line.now (Ok (Some b)) = subst (λ r. Answers c.args.self.now.measure c.len.result c.args.line.now r) said c.read_line.ensures.answer.0 in
           omega (arith, a.0.1);
     }

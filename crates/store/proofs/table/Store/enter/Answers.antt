@@ -8,7 +8,7 @@ returns c =
     let s = c.args.self.now in
     let xs = vec_items c.args.self.now.table.records in
     let h : c.args.self.now.stored < length (vec_items c.args.self.now.table.records) = omega (arith, items_there c.args.self.now, entry-room c.args.self.now c.requires) in
-    let p : get_or (programs_of c.args.self.now.table) c.args.self.now.stored blank ≡ program_of c.slot-mut.result.now = item xs s.stored c.slot-mut.result.now h c.slot-mut.ensures.value in
+    let p : get_or (programs_of c.args.self.now.table) c.args.self.now.stored blank ≡ program_of c.slot_mut.result.now = item xs s.stored c.slot_mut.result.now h c.slot_mut.ensures.value in
     record {
       value = c.add.ensures.value ∙ ap (λ q. line_reply (read q c.args.line.now)) (sym p);
       after =

@@ -8,7 +8,7 @@ returns c =
     let h : c.args.i < length (vec_items c.args.self.now.records) = search rules in
     record {
       after =
-          ap (map program_of) (c.push-reserved.ensures.items ∙ ap (λ z. z ++ c.remove-freed.result ∷ []) c.remove-freed.ensures.items)
+          ap (map program_of) (c.push_reserved.ensures.items ∙ ap (λ z. z ++ c.remove-freed.result ∷ []) c.remove-freed.ensures.items)
           ∙ map_freed (vec_items c.args.self.now.records) c.args.i c.remove-freed.result h c.remove-freed.ensures.value;
       length = search rules;
       capacity = search rules;
