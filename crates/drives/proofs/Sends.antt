@@ -1,7 +1,7 @@
 -- Several pulses: a refused one stops all that follow, and where the count comes to.
 use Rattle.std.proofs.Common.{◌≡◌, ℕ, zero, suc, ◌+◌, ◌-◌, ◌<◌, ◌≤◌, Bool, true, false, cond, ℤ, pos, negsuc, ◌+ℤ◌, neg_ℤ, ◌≤ℤ◌, Ok, Err, Result, sym, refl, ap, ◌∙◌, suc-add, zero-add, add-one, arith}
 use lib.Signed.{le_z}
-use Rattle.std.proofs.lemmas.Int.{ints, clamps}
+use Rattle.std.proofs.lemmas.Int.{ints}
 use Rattle.std.specs.Int.{int_min, int_max}
 use Rattle.drives.specs.declared.direction.Direction.{Direction}
 use Rattle.drives.specs.declared.direction.Direction.TheVariants.{Forward, Backward}

@@ -1,5 +1,5 @@
 -- Laws over whole runs of acts on a drive, and the worked example of a play.
-use Rattle.std.specs.Prelude.{◌≡◌, ℕ, Bool, true, false, List, [], ◌∷◌, ℤ, pos, negsuc}
+use Rattle.std.specs.Prelude.{◌≡◌, ℕ, true, List, [], ◌∷◌, ℤ, pos, negsuc}
 use Rattle.drives.specs.declared.direction.Direction.{Direction}
 use Rattle.drives.specs.declared.direction.Direction.TheVariants.{Forward, Backward}
 use Rattle.drives.specs.declared.take_up.Counts.{Counts}

@@ -1,5 +1,5 @@
 -- Several pulses in one direction.
-use Rattle.std.specs.Prelude.{ℕ, zero, suc, cond, ℤ, pos, ◌+ℤ◌, neg_ℤ, Ok, Err, Result}
+use Rattle.std.specs.Prelude.{ℕ, zero, suc, cond, ℤ, pos, ◌+ℤ◌, neg_ℤ, Ok, Result}
 use Rattle.std.specs.Int.{int_min, int_max}
 use Rattle.drives.specs.declared.direction.Direction.{Direction}
 use Rattle.drives.specs.declared.direction.Direction.TheVariants.{Forward, Backward}

@@ -1,6 +1,5 @@
 -- The clock stage.
 use Rattle.std.specs.Prelude.{◌≡◌, Bool, true, false, ◌||◌, ℤ, Ok, Err, Result, int_lt}
-use Rattle.drives.specs.declared.direction.Direction.{Direction}
 use Rattle.drives.specs.declared.direction.Direction.TheVariants.{Forward}
 use Rattle.drives.specs.declared.clock_stage.ClockStage.{ClockStage}
 use Rattle.drives.specs.declared.fault.DriveFault.{DriveFault}

@@ -1,5 +1,5 @@
 -- The take-up layer: it takes up a play of b pulses over any drive.
-use Rattle.std.specs.Prelude.{◌≡◌, ℕ, ◌+◌, Bool, true, false, cond, ℤ, pos, ◌+ℤ◌, is_ok, Ok, Err, Result, int_le}
+use Rattle.std.specs.Prelude.{◌≡◌, ℕ, ◌+◌, Bool, true, false, cond, pos, ◌+ℤ◌, is_ok, Ok, Err, Result, int_le}
 use Rattle.drives.specs.declared.direction.Direction.{Direction}
 use Rattle.drives.specs.declared.direction.Direction.TheVariants.{Forward, Backward}
 use Rattle.drives.specs.declared.fault.DriveFault.{DriveFault}

@@ -3,6 +3,7 @@
 //! A drive means four things: its count, the least and the greatest count, and
 //! whether it is ready. `Drive` is the interface, `ClockStage` the stage at the
 //! bottom, `TakeUp` a layer that takes up the play of a screw over any drive.
+#![tactic(auto)]
 
 pub mod clock_stage;
 pub mod direction;

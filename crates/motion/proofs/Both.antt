@@ -1,5 +1,5 @@
 -- Two tests in a row, of which the first has passed.
-use Rattle.std.proofs.Common.{◌≡◌, Bool, true, false, ◌&&◌, Decides, sym, ◌∙◌}
+use Rattle.std.proofs.Common.{◌≡◌, Bool, true, ◌&&◌, Decides, sym, ◌∙◌}
 
 pub both_value : (b r x y : Bool) → b ≡ true → b ≡ x → r ≡ y → r ≡ (x && y)
 both_value b r x y t e f = let g : x ≡ true = sym e ∙ t in rw g f

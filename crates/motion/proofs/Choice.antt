@@ -1,9 +1,9 @@
 -- The step that a tick chooses.
-use Rattle.std.proofs.Common.{◌≡◌, ℕ, ◌+◌, ◌-◌, ◌<◌, ◌≤◌, Bool, true, false, cond, ◌&&◌, eqb, ltb, leb, sym, ap, ◌∙◌, subst, ⊎_elim, arith}
+use Rattle.std.proofs.Common.{◌≡◌, ℕ, ◌+◌, ◌-◌, ◌<◌, ◌≤◌, true, false, eqb, sym, ap, ◌∙◌, subst, ⊎_elim, arith}
 use Rattle.std.proofs.lemmas.Bool.{cond-true, cond-false, cond_both, and_parts, leb-true, ltb-true, eqb-true, cases_lt}
 use Rattle.motion.specs.Ramp.{Ramp, ramp_of}
 use Rattle.motion.specs.Travel.{Going, gain, fits, chosen, in_ramp, left_at, way}
-use Rattle.motion.specs.View.{mover_ramp, going_of}
+use Rattle.motion.specs.View.{mover_ramp}
 use Rattle.motion.specs.declared.mover.Mover.{Mover}
 use Rattle.motion.proofs.Way.{way-none, way_last}
 

@@ -1,5 +1,5 @@
 -- The ramp's steps: the only places that open its recursion.
-use Rattle.std.proofs.Common.{◌≡◌, ℕ, zero, suc, ◌+◌, ◌-◌, ◌*◌, ◌/◌, ◌<◌, ◌≤◌, min, sym, refl, ap, ◌∙◌, add-zero, add-one, arith}
+use Rattle.std.proofs.Common.{◌≡◌, ℕ, zero, suc, ◌+◌, ◌-◌, ◌*◌, ◌/◌, ◌≤◌, min, refl, ap, ◌∙◌, add-zero, add-one, arith}
 use Rattle.motion.specs.Ramp.{next_of, after_first}
 
 pub first-none : (fs fm a : ℕ) → after_first fs fm a 0 ≡ fs

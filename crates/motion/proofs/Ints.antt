@@ -1,5 +1,5 @@
 -- Signed products as the code has them, and their bounds.
-use Rattle.std.proofs.Common.{◌≡◌, ℕ, ◌+◌, ◌*◌, ◌/◌, ◌^◌, ◌<◌, ◌≤◌, ℤ, pos, negsuc, ◌+ℤ◌, ◌*ℤ◌, nat_abs, refl, ap, ◌∙◌, div-le_self, arith, w32, w64, SFits, to_z, of_z}
+use Rattle.std.proofs.Common.{◌≡◌, ℕ, ◌+◌, ◌*◌, ◌^◌, ◌<◌, ◌≤◌, ℤ, pos, negsuc, ◌+ℤ◌, ◌*ℤ◌, nat_abs, refl, ap, ◌∙◌, div-le_self, arith, w32, w64, SFits, to_z, of_z}
 use Rattle.std.specs.Int.{int_div_euclid, int_min, int_max}
 use Rattle.motion.specs.Places.{floor_div, rounded_of, held}
 use borrow.Author.Differences.{up, down}

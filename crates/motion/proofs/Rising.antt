@@ -1,13 +1,10 @@
 -- Ramps that rise, and that the ramp of machine data is one.
-use Rattle.std.proofs.Common.{◌≡◌, ℕ, zero, suc, ◌+◌, ◌-◌, ◌*◌, ◌/◌, ◌<◌, ◌≤◌, min, Bool, true, false, cond, ltb, leb, sym, refl, ap, ◌∙◌, subst, ⊎_elim, add-one, arith}
+use Rattle.std.proofs.Common.{◌≡◌, ℕ, zero, suc, ◌+◌, ◌-◌, ◌*◌, ◌<◌, ◌≤◌, true, false, ltb, leb, sym, ap, ◌∙◌, subst, ⊎_elim, add-one, arith}
 use Rattle.std.proofs.lemmas.Nat.{mul-le, le-div}
 use Rattle.std.proofs.lemmas.Bool.{cases_lt, cases_eq, ltb-true, lt-ltb, le-leb, lt-leb, cond-true, cond-false}
-use Rattle.motion.specs.declared.raw.RawData.{RawData}
-use Rattle.motion.specs.Data.{Frequencies, Ordered, Short}
 use Rattle.motion.specs.Ramp.{Ramp, ramp_of, after_first, next_of}
-use Rattle.motion.specs.Travel.{in_ramp}
-use Rattle.motion.specs.Laws.{Rises, EndsAt, LastAt, RampRises, RampEnds, LastStep}
-use Rattle.motion.proofs.Curve.{first-none, first_more, next_within, stays, past}
+use Rattle.motion.specs.Laws.{Rises, EndsAt, RampRises, RampEnds, LastStep}
+use Rattle.motion.proofs.Curve.{first-none, first_more, next_within, stays}
 
 -- one step of the curve is a rise
 pub next_climbs : (fs fm a f : ℕ) → 20 ≤ a → fs ≤ f → f < fm → f < next_of fs fm a f

@@ -1,12 +1,12 @@
 -- Runs of ticks: what they keep, what they send, and that they end.
-use Rattle.std.proofs.Common.{◌≡◌, ℕ, zero, suc, ◌+◌, ◌-◌, ◌*◌, ◌/◌, ◌<◌, ◌≤◌, min, max, Bool, true, false, cond, eqb, ltb, leb, ◌⊎◌, ℤ, nat_abs, sym, refl, ap, ◌∙◌, subst, inl, inr, ⊎_elim, arith}
-use Rattle.std.proofs.lemmas.Bool.{cases_lt, cases_eq, cases_Bool, cond-true, cond-false, cond_both, eq-eqb, ne_eqb, le-leb, lt-leb, and_from, and_right}
+use Rattle.std.proofs.Common.{◌≡◌, ℕ, zero, suc, ◌+◌, ◌-◌, ◌*◌, ◌/◌, ◌<◌, ◌≤◌, min, eqb, ℤ, nat_abs, sym, refl, ap, ◌∙◌, subst, ⊎_elim, arith}
+use Rattle.std.proofs.lemmas.Bool.{cases_eq, cond-true, cond-false, cond_both, ne_eqb, le-leb, lt-leb}
 use Rattle.motion.specs.Ramp.{Ramp}
-use Rattle.motion.specs.Travel.{Going, gain, way, fits, in_ramp, chosen, left_at, ticked, braked, begun, passed_in, passing}
+use Rattle.motion.specs.Travel.{Going, gain, way, fits, chosen, left_at, ticked, braked, begun, passed_in}
 use Rattle.motion.specs.Laws.{Rises, Safe, runs, sends, StaysSafe, CompleteIn, WholeMove, NeverPast, FirstTick, Stops}
-use Rattle.motion.proofs.Way.{way-none, way-more, way-suc, way_last, gain_bound}
+use Rattle.motion.proofs.Way.{way-none, way-suc, way_last}
 use Rattle.motion.proofs.Choice.{fits_parts, left_keeps}
-use Rattle.motion.specs.View.{mover_ramp, going_of, mover_data, Movers}
+use Rattle.motion.specs.View.{mover_data, Movers}
 use Rattle.motion.proofs.Rising.{at_least_one, ramp_rises}
 
 module _ (f : Ramp) where

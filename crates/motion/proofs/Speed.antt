@@ -1,13 +1,13 @@
 -- No tick runs more than the rate.
-use Rattle.std.proofs.Common.{◌≡◌, ℕ, zero, suc, ◌+◌, ◌-◌, ◌<◌, ◌≤◌, Bool, true, false, cond, eqb, ltb, leb, ℤ, sym, refl, ap, ◌∙◌, subst, ⊎_elim, arith}
-use Rattle.std.proofs.lemmas.Bool.{cases_lt, cases_eq, cond-true, cond-false, cond_both, le-leb, lt-leb, lt-ltb, ltb-true, ne_eqb, and_from}
+use Rattle.std.proofs.Common.{◌≡◌, ℕ, zero, suc, ◌+◌, ◌-◌, ◌<◌, ◌≤◌, true, ltb, leb, sym, ap, ◌∙◌, subst, ⊎_elim, arith}
+use Rattle.std.proofs.lemmas.Bool.{cases_lt, cases_eq, cond-true, cond-false, cond_both, le-leb, lt-leb, lt-ltb, ltb-true, and_from}
 use Rattle.motion.specs.Ramp.{Ramp}
-use Rattle.motion.specs.Travel.{Going, gain, way, fits, in_ramp, chosen, left_at, ticked, begun}
+use Rattle.motion.specs.Travel.{Going, gain, way, fits, in_ramp, chosen, ticked, begun}
 use Rattle.motion.specs.Laws.{Rises, Safe, runs, SpeedHeld}
 use Rattle.motion.proofs.Way.{way-none, way-suc, gain_bound}
 use Rattle.motion.proofs.Choice.{fits_parts}
 use Rattle.motion.proofs.Rising.{rising}
-use Rattle.motion.proofs.Runs.{chosen-way, begun-safe, ticked-safe, tick-ends, tick_goes}
+use Rattle.motion.proofs.Runs.{begun-safe, ticked-safe, tick_goes}
 
 in_first : (f : Ramp) (v k : ℕ) → k ≤ 1 → in_ramp f v k ≡ true
 in_first f v k h = cond-true (leb k 1) true (ltb (f (k - 1)) v) (le-leb k 1 h)

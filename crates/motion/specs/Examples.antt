@@ -1,5 +1,5 @@
 -- Worked examples, computed by the definitions that the contracts cite.
-use Rattle.std.specs.Prelude.{ℕ, zero, suc, ◌+◌, Bool, true, false, ◌&&◌, T, List, [], ◌∷◌, ◌++◌, ℤ, pos, negsuc, ◌+ℤ◌, ◌-ℤ◌, neg_ℤ, ◌==◌, int_le}
+use Rattle.std.specs.Prelude.{ℕ, ◌+◌, Bool, true, false, ◌&&◌, T, List, [], ◌∷◌, ◌++◌, ℤ, pos, negsuc, ◌+ℤ◌, ◌-ℤ◌, neg_ℤ, ◌==◌, int_le}
 use Rattle.motion.specs.declared.raw.RawData.{RawData}
 use Rattle.units.specs.declared.Measure.TheVariants.{Millimetre}
 use Rattle.motion.specs.Ramp.{ramp_of}

@@ -1,11 +1,11 @@
 -- The laws of ramps, moves and places, in the words of the subject.
-use Rattle.std.specs.Prelude.{◌≡◌, ℕ, zero, suc, ◌+◌, ◌-◌, ◌*◌, ◌/◌, ◌<◌, ◌≤◌, max, Bool, true, false, ℤ, pos, ◌-ℤ◌, ◌*ℤ◌, ◌≤ℤ◌, ◌≢◌, unsigned_abs}
+use Rattle.std.specs.Prelude.{◌≡◌, ℕ, zero, suc, ◌+◌, ◌-◌, ◌*◌, ◌/◌, ◌<◌, ◌≤◌, max, true, ℤ, pos, ◌-ℤ◌, ◌*ℤ◌, ◌≤ℤ◌, ◌≢◌, unsigned_abs}
 use Rattle.std.specs.Int.{int_min, int_max}
 use Rattle.motion.specs.declared.raw.RawData.{RawData}
 use Rattle.motion.specs.Data.{Frequencies, Ordered, Short}
 use Rattle.motion.specs.Ramp.{Ramp, ramp_of}
 use Rattle.motion.specs.Places.{pulses_of, nearest_of, held}
-use Rattle.motion.specs.Travel.{Going, gain, way, in_ramp, ticked, braked, begun, passed_in, passing}
+use Rattle.motion.specs.Travel.{Going, gain, way, in_ramp, ticked, braked, begun, passing}
 
 -- THE RAMP
 

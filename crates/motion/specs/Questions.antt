@@ -1,5 +1,5 @@
 -- The questions asked of machine data, as tests that compute, and the fault that the first failed one gives.
-use Rattle.std.specs.Prelude.{ℕ, Bool, true, false, cond, ◌&&◌, ℤ, pos, negsuc, Some, None, Option, ◌==◌, int_le, int_lt, nat_le, slice_index_or}
+use Rattle.std.specs.Prelude.{ℕ, Bool, cond, ◌&&◌, ℤ, pos, negsuc, Some, None, Option, ◌==◌, int_le, int_lt, nat_le, slice_index_or}
 use Rattle.motion.specs.declared.raw.RawData.{RawData}
 use Rattle.motion.specs.declared.fault.DataFault.{DataFault}
 use Rattle.motion.specs.declared.fault.DataFault.TheVariants.{OutOfRange, Disagree}

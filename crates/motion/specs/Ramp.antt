@@ -1,5 +1,5 @@
 -- The ramp: how the frequency rises from the start frequency to the maximum, step by step.
-use Rattle.std.specs.Prelude.{◌≡◌, ℕ, zero, suc, ◌+◌, ◌-◌, ◌*◌, ◌/◌, ◌<◌, ◌≤◌, min}
+use Rattle.std.specs.Prelude.{ℕ, zero, suc, ◌+◌, ◌-◌, ◌*◌, ◌/◌, min}
 use Rattle.motion.specs.declared.raw.RawData.{RawData}
 
 -- the frequency of each step, from step 1 on

@@ -1,5 +1,5 @@
 -- A move in progress over any ramp: its ticks, its braking ticks, and the pulses that they send.
-use Rattle.std.specs.Prelude.{ℕ, zero, suc, ◌+◌, ◌-◌, ◌*◌, ◌/◌, min, max, Bool, true, false, cond, ◌&&◌, ◌||◌, ℤ, ◌==◌, nat_le, nat_lt, unsigned_abs}
+use Rattle.std.specs.Prelude.{ℕ, zero, suc, ◌+◌, ◌-◌, ◌*◌, ◌/◌, min, max, Bool, true, cond, ◌&&◌, ℤ, ◌==◌, nat_le, nat_lt, unsigned_abs}
 use Rattle.motion.specs.Ramp.{Ramp}
 use Rattle.motion.specs.declared.passed.Passed.{Passed}
 

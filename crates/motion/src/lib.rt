@@ -1,5 +1,6 @@
 //! The arithmetic of one positioning axis: machine data, ramp, pulses of a coordinate, a move's tick.
 //! Everything here is a function of numbers; no drive is known.
+#![tactic(auto)]
 
 mod checked;
 pub mod fault;

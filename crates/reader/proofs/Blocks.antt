@@ -1,6 +1,6 @@
 -- The block holds just what the words of a line say.
-use Rattle.std.proofs.Common.{◌≡◌, ℕ, zero, suc, ◌+◌, ◌-◌, ◌<◌, ◌≤◌, Bool, true, false, cond, not, ◌&&◌, ◌||◌, eqb, ltb, leb, ◌⊎◌, List, [], ◌∷◌, ◌++◌, is_some, Some, None, Option, sym, refl, ap, ◌∙◌, subst, inl, inr, ⊎_elim, arith}
-use Rattle.std.proofs.lemmas.Bool.{and_from, or_left, or_right, or_parts, eq-eqb, both_ways, not_from_true}
+use Rattle.std.proofs.Common.{◌≡◌, ℕ, ◌-◌, true, false, cond, not, ◌||◌, eqb, ltb, leb, ◌⊎◌, List, [], ◌∷◌, ◌++◌, is_some, Some, None, Option, sym, refl, ap, ◌∙◌, subst, inl, inr, ⊎_elim, arith}
+use Rattle.std.proofs.lemmas.Bool.{and_from, or_right, or_parts, eq-eqb, both_ways}
 use Rattle.std.proofs.lemmas.List.{append_assoc}
 use Rattle.std.specs.Option.{option_map}
 use Rattle.units.specs.declared.Measure.{Measure}
@@ -14,7 +14,7 @@ use Rattle.reader.specs.declared.block.Block.{Block}
 use Rattle.reader.specs.Words.{rank, onto, within, upto, units_of, preparatory, same_group, value_of}
 use Rattle.reader.specs.Lines.{Piece, word, remark}
 use Rattle.reader.specs.Questions.{clash, misplaced, outside, empty, holding, more, said, block_from}
-use Rattle.reader.specs.Answers.{Split, Among, NoneBad, Has, Told, Gives}
+use Rattle.reader.specs.Answers.{Among, NoneBad, Has, Told, Gives}
 use Rattle.reader.proofs.Forms.{same_some, none_some}
 
 -- which field of a block a value fills

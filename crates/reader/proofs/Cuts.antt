@@ -1,5 +1,5 @@
 -- How a line is cut at its first byte.
-use Rattle.std.proofs.Common.{◌≡◌, ℕ, zero, suc, ◌+◌, ◌-◌, ◌<◌, ◌≤◌, Bool, true, false, cond, eqb, ltb, List, [], ◌∷◌, ◌++◌, length, get_or, take, drop, Some, None, Ok, Err, Option, Result, sym, refl, ap, ◌∙◌, subst, arith}
+use Rattle.std.proofs.Common.{◌≡◌, ℕ, zero, suc, ◌+◌, ◌-◌, ◌<◌, ◌≤◌, true, eqb, List, [], ◌∷◌, length, get_or, take, drop, Some, None, Ok, Err, Option, Result, sym, refl, ap, ◌∙◌, subst, arith}
 use Rattle.std.specs.List.{prefix_len}
 use Rattle.std.proofs.lemmas.List.{take_rest, length-drop, drop-drop, length-take-le, nil_from_length}
 use Rattle.std.proofs.lemmas.List.Sums.{prefix_len-le-length}
@@ -11,8 +11,8 @@ use Rattle.reader.specs.declared.part.Letter.{Letter}
 use Rattle.reader.specs.declared.part.Part.{Part}
 use Rattle.reader.specs.declared.part.Rest.{Rest}
 use Rattle.reader.specs.Words.{numeric, letter_of, formed}
-use Rattle.reader.specs.Lines.{Piece, word, remark, Cut, end, part, broken, inside, closed_at, remark_of, remark_in, word_in, opened, taken, onward, cut, Next}
-use Rattle.reader.proofs.Fronts.{rest, first_rest, at_first, length_rest}
+use Rattle.reader.specs.Lines.{Piece, word, remark, end, part, inside, closed_at, remark_of, remark_in, word_in, opened, taken, onward, cut, Next}
+use Rattle.reader.proofs.Fronts.{rest, first_rest, length_rest}
 
 pub cut_skip : (m : Measure) (k at : ℕ) (xs : List ℕ) → cut m k at xs ≡ cut m 0 (at + k) (drop k xs)
 cut_skip m zero at [] = refl

@@ -1,8 +1,8 @@
 -- The form of a word's number, and what it says, both ways.
-use Rattle.std.proofs.Common.{◌≡◌, ℕ, zero, suc, ◌+◌, ◌-◌, ◌*◌, ◌^◌, ◌<◌, ◌≤◌, Bool, true, false, cond, not, ◌&&◌, ◌||◌, eqb, ltb, leb, ◌⊎◌, List, [], ◌∷◌, ◌++◌, length, take, drop, Some, None, Option, sym, refl, ap, ◌∙◌, subst, inl, inr, ⊎_elim, arith}
-use Rattle.std.specs.List.{prefix_len, AllByRecursion as All}
-use Rattle.std.proofs.lemmas.List.{take-append-drop, append-nil}
-use Rattle.std.proofs.lemmas.Bool.{cond-true, cond-false, eqb-true, eq-eqb, ne_eqb, cases_eq, and_parts, and_from, leb-true, le-leb, both_ways, not-true, not_from_false, eqb-false, or_from}
+use Rattle.std.proofs.Common.{◌≡◌, ℕ, ◌≤◌, Bool, true, false, not, ◌&&◌, ◌||◌, eqb, List, [], ◌∷◌, ◌++◌, length, take, drop, Some, None, Option, sym, refl, ap, ◌∙◌, subst, ⊎_elim, arith}
+use Rattle.std.specs.List.{prefix_len}
+use Rattle.std.proofs.lemmas.List.{take-append-drop}
+use Rattle.std.proofs.lemmas.Bool.{cond-false, eqb-true, eq-eqb, ne_eqb, cases_eq, and_parts, and_from, leb-true, le-leb, both_ways, not-true, not_from_false, eqb-false, or_from}
 use Rattle.std.proofs.lemmas.Bool.Decides.{nat_tests}
 use Rattle.units.specs.declared.Measure.{Measure}
 use Rattle.reader.specs.declared.part.Letter.{Letter}
@@ -10,7 +10,7 @@ use Rattle.reader.specs.declared.part.Letter.TheVariants.{N, G, X, F, M}
 use Rattle.reader.specs.Words.{digit, all_digits, negative, body, whole, after, fraction, decimal, formed}
 use Rattle.units.specs.Measures.{places}
 use Rattle.reader.specs.Reads.{AllOf, Stops, Sign, unsigned, plus, minus, Fraction, without, point, DecimalOf, WellFormed}
-use Rattle.reader.proofs.Runs.{run_leading, stops_leading, digits_run, run_digits, take-run, drop-run}
+use Rattle.reader.proofs.Runs.{run_leading, digits_run, run_digits, take-run, drop-run}
 
 -- a number is its sign and its body
 abbrev SignOf : List ℕ → Type 0

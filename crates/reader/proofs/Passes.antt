@@ -1,12 +1,12 @@
 -- The passes over the parts of a line, one part on.
-use Rattle.std.proofs.Common.{◌≡◌, ℕ, ◌+◌, ◌-◌, ◌<◌, ◌≤◌, Bool, true, false, ◌||◌, List, [], ◌∷◌, ◌++◌, map, length, get_or, take, drop, Some, None, Option, sym, refl, ap, ◌∙◌, subst, arith}
+use Rattle.std.proofs.Common.{◌≡◌, ℕ, ◌+◌, ◌-◌, ◌<◌, ◌≤◌, Bool, true, false, ◌||◌, List, [], map, length, get_or, take, drop, Some, None, Option, sym, ap, ◌∙◌, subst, arith}
 use Rattle.std.proofs.lemmas.List.{at_drop_more, at_drop_all, drop_more, take_more, drop_all, length-map, get_or-map, take-map}
 use Rattle.std.proofs.lemmas.Bool.{cond-true, cond-false}
 use Rattle.units.specs.declared.Measure.{Measure}
 use Rattle.reader.specs.declared.block.Block.{Block}
 use Rattle.reader.specs.declared.part.Part.{Part}
 use Rattle.reader.specs.Lines.{Piece, shown}
-use Rattle.reader.specs.Questions.{start_of, first_bad, clash, misplaced, outside, more, said, block_from}
+use Rattle.reader.specs.Questions.{start_of, first_bad, clash, misplaced, more, said, block_from}
 
 pub misplaced-more : (xs : List Part) (p : Piece) (i : ℕ) (d : Part) → i < length xs → misplaced (map shown (drop i xs)) p ≡ (clash (shown (get_or xs i d)) p || misplaced (map shown (drop (i + 1) xs)) p)
 misplaced-more xs p i d h = at_drop_more (λ ys. misplaced (map shown ys) p) xs i d h

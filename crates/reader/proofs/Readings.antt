@@ -1,18 +1,17 @@
 -- A line reads as it is cut, and in no other way.
-use Rattle.std.proofs.Common.{◌≡◌, ℕ, zero, suc, ◌+◌, ◌-◌, ◌<◌, ◌≤◌, Bool, true, false, cond, not, eqb, ltb, ◌⊎◌, List, [], ◌∷◌, ◌++◌, length, take, drop, Some, None, Option, sym, refl, ap, ◌∙◌, subst, inl, inr, ⊎_elim, arith}
+use Rattle.std.proofs.Common.{◌≡◌, ℕ, zero, suc, ◌+◌, ◌<◌, ◌≤◌, true, false, eqb, List, [], ◌∷◌, ◌++◌, length, take, drop, Some, None, Option, sym, refl, ap, ◌∙◌, subst, ⊎_elim, arith}
 use Rattle.std.specs.List.{prefix_len}
 use Rattle.std.proofs.lemmas.List.{take-append-drop, take_rest, length-take-le, drop-drop, length-drop}
 use Rattle.std.proofs.lemmas.List.Sums.{prefix_len-le-length}
-use Rattle.std.proofs.lemmas.Bool.{cond-true, cond-false, ne_eqb, cases_eq, cases_Bool, cases_lt, le-ltb, both_ways, eqb-true, not-false}
+use Rattle.std.proofs.lemmas.Bool.{cond-false, ne_eqb, cases_eq, cases_Bool, cases_lt, le-ltb, both_ways, eqb-true, not-false}
 use Rattle.std.proofs.lemmas.Bool.Decides.{nat_tests}
 use Rattle.units.specs.declared.Measure.{Measure}
 use Rattle.reader.specs.declared.part.Letter.{Letter}
 use Rattle.reader.specs.declared.part.Letter.TheVariants.{N, G, X, F, M}
 use Rattle.reader.specs.Words.{numeric, letter_of, formed}
-use Rattle.reader.specs.Lines.{Piece, word, remark, Cut, end, part, broken, inside, remark_of, remark_in, word_in, opened, taken, onward, cut, pieces, fault_in}
-use Rattle.reader.specs.Reads.{AllOf, Stops, byte_of, WellFormed, Reads, done, blank, a_word, a_remark, ill_formed, unclosed, unknown}
-use Rattle.reader.proofs.Fronts.{rest}
-use Rattle.reader.proofs.Runs.{run_leading, stops_leading, run_from_length, length_from_run, leading_run, take-run, drop-run}
+use Rattle.reader.specs.Lines.{Piece, word, remark, Cut, part, broken, inside, remark_of, remark_in, word_in, opened, cut, pieces, fault_in}
+use Rattle.reader.specs.Reads.{AllOf, Stops, byte_of, Reads, done, blank, a_word, a_remark, ill_formed, unclosed, unknown}
+use Rattle.reader.proofs.Runs.{run_leading, stops_leading, run_from_length, length_from_run, take-run, drop-run}
 use Rattle.reader.proofs.Forms.{well_from, well_to, none_some}
 use Rattle.reader.proofs.Cuts.{cut_step, cut_word, cut-remark, taken_word, opened-word, remark-closed}
 

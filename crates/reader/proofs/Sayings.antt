@@ -1,5 +1,5 @@
 -- The value of a well formed word is what it says.
-use Rattle.std.proofs.Common.{◌≡◌, ℕ, ◌+◌, ◌-◌, ◌*◌, ◌^◌, ◌<◌, ◌≤◌, Bool, true, false, cond, leb, List, [], ◌∷◌, ◌++◌, length, ℤ, Some, None, Option, sym, refl, ap, ◌∙◌, subst, arith}
+use Rattle.std.proofs.Common.{◌≡◌, ℕ, ◌+◌, ◌-◌, ◌*◌, ◌^◌, ◌≤◌, Bool, List, [], ◌∷◌, ◌++◌, length, ℤ, Some, sym, refl, ap, ◌∙◌, subst, arith}
 use Rattle.std.proofs.lemmas.Bool.{cond-true, and_from, le-leb}
 use Rattle.std.proofs.lemmas.Bool.Decides.{nat_tests}
 use Rattle.std.specs.Option.{option_map}
@@ -8,11 +8,11 @@ use Rattle.reader.specs.declared.part.Letter.{Letter}
 use Rattle.reader.specs.declared.part.Letter.TheVariants.{N, G, X, F, M}
 use Rattle.reader.specs.declared.block.Value.{Value}
 use Rattle.reader.specs.declared.block.Value.TheVariants as value
-use Rattle.reader.specs.Words.{onto, within, upto, negative, whole, after, fraction, signed, limited, scaled, units_of, preparatory, value_of}
+use Rattle.reader.specs.Words.{onto, within, upto, whole, after, fraction, signed, limited, scaled, units_of, preparatory, value_of}
 use Rattle.units.specs.Measures.{places}
 use Rattle.reader.specs.Reads.{DecimalOf, WellFormed, Says, number, prepared, target, rate, auxiliary}
 use Rattle.reader.specs.Answers.{ValuesSaid}
-use Rattle.reader.proofs.Forms.{same_some, none_some, decimal_to}
+use Rattle.reader.proofs.Forms.{decimal_to}
 use Rattle.reader.proofs.Blocks.{some_from}
 
 within_some : (a b x y : ℕ) → within a b x ≡ Some y → (y ≡ x) × (a ≤ x) × (x ≤ b)

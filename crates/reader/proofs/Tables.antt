@@ -1,10 +1,10 @@
 -- The table of a line's parts while it is filled.
-use Rattle.std.proofs.Common.{◌≡◌, ℕ, ◌+◌, ◌<◌, ◌≤◌, List, [], ◌∷◌, ◌++◌, map, length, take, set, Ok, sym, refl, ap, ◌∙◌, subst, arith}
+use Rattle.std.proofs.Common.{◌≡◌, ℕ, ◌+◌, ◌<◌, ◌≤◌, List, [], ◌∷◌, ◌++◌, map, length, take, set, Ok, sym, ap, ◌∙◌, arith}
 use Rattle.std.proofs.lemmas.List.{append_assoc, length-set, take_more_set, map_push}
 use Rattle.units.specs.declared.Measure.{Measure}
 use Rattle.reader.specs.declared.part.Part.{Part}
 use Rattle.reader.specs.declared.part.Rest.{Rest}
-use Rattle.reader.specs.Lines.{Piece, Cut, part, shown, left, cut, pieces, fault_in, Begins}
+use Rattle.reader.specs.Lines.{Cut, shown, left, cut, pieces, fault_in, Begins}
 
 -- the table's front and what is left of the line are together the whole line
 abbrev pub Filling : Measure → Cut → List Part → ℕ → ℕ → List ℕ → Type 0

@@ -1,5 +1,5 @@
 -- What a line's answer is, in the words of the rules.
-use Rattle.std.specs.Prelude.{◌≡◌, ℕ, ◌<◌, ◌≤◌, Bool, true, false, ◌⊎◌, List, [], ◌∷◌, ◌++◌, length, Some, None, Ok, Err, Option, Result, ◌≢◌}
+use Rattle.std.specs.Prelude.{◌≡◌, ℕ, ◌<◌, ◌≤◌, Bool, true, false, ◌⊎◌, List, ◌∷◌, ◌++◌, length, Some, None, Ok, Err, Option, Result, ◌≢◌}
 use Rattle.units.specs.declared.Measure.{Measure}
 use Rattle.reader.specs.declared.part.Letter.{Letter}
 use Rattle.reader.specs.declared.block.Preparatory.TheVariants.{OfMotion, OfOffset, OfWay}
@@ -10,7 +10,7 @@ use Rattle.reader.specs.declared.fault.LineFault.{LineFault}
 use Rattle.reader.specs.declared.fault.LineFault.TheVariants.{TooLong, ProgramFull, Form, Order, Range}
 use Rattle.reader.specs.Faults.{number_of}
 use Rattle.reader.specs.Words.{value_of}
-use Rattle.reader.specs.Lines.{Piece, word, remark}
+use Rattle.reader.specs.Lines.{Piece, word}
 use Rattle.reader.specs.Questions.{start_of, misplaced, outside, said}
 use Rattle.reader.specs.Reads.{WellFormed, Reads, Says}
 

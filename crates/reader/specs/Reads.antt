@@ -1,5 +1,5 @@
 -- What a line is: blanks, words and remarks, each at its place.
-use Rattle.std.specs.Prelude.{◌≡◌, ℕ, ◌+◌, ◌-◌, ◌*◌, ◌^◌, ◌<◌, ◌≤◌, Bool, true, false, ◌⊎◌, List, [], ◌∷◌, ◌++◌, length, ℤ, Some, None, Option, ◌≢◌}
+use Rattle.std.specs.Prelude.{◌≡◌, ℕ, ◌+◌, ◌-◌, ◌*◌, ◌^◌, ◌≤◌, Bool, true, false, List, [], ◌∷◌, ◌++◌, length, Some, None, Option, ◌≢◌}
 use Rattle.std.specs.List.{AllByRecursion as All}
 use Rattle.units.specs.declared.Measure.{Measure}
 use Rattle.reader.specs.declared.block.Preparatory.{Preparatory}
@@ -7,7 +7,7 @@ use Rattle.reader.specs.declared.block.Value.{Value}
 use Rattle.reader.specs.declared.block.Value.TheVariants as value
 use Rattle.reader.specs.declared.part.Letter.{Letter}
 use Rattle.reader.specs.declared.part.Letter.TheVariants.{N, G, X, F, M}
-use Rattle.reader.specs.Words.{digit, numeric, onto, signed, preparatory, value_of}
+use Rattle.reader.specs.Words.{digit, numeric, onto, signed, preparatory}
 use Rattle.units.specs.Measures.{places}
 use Rattle.reader.specs.Lines.{Piece, word, remark, inside}
 

@@ -1,3 +1,5 @@
+#![tactic(auto)]
+
 ghost use Rattle.std.specs.Prelude.{◌≡◌, ◌≤◌, length};
 ghost use Rattle.reader.specs.Lines.{cut};
 ghost use Rattle.reader.specs.Questions.{per_cent, judged, verdict};

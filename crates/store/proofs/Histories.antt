@@ -1,18 +1,16 @@
 -- What every run of calls keeps: how the entry and each stored program came about.
-use Rattle.std.proofs.Common.{◌≡◌, ℕ, suc, ◌+◌, ◌<◌, ◌≤◌, Bool, true, false, cond, not, eqb, ltb, leb, List, [], ◌∷◌, ◌++◌, length, is_some, Some, None, Ok, Err, Option, Result, sym, refl, ap, ◌∙◌, subst, append_assoc, arith}
+use Rattle.std.proofs.Common.{◌≡◌, ℕ, suc, ◌<◌, ◌≤◌, Bool, true, false, cond, not, eqb, ltb, leb, List, [], ◌∷◌, ◌++◌, length, is_some, Some, None, Ok, Err, Option, Result, sym, refl, ap, ◌∙◌, subst, append_assoc, arith}
 use Rattle.std.proofs.lemmas.List.{append-nil, length_push}
 use Rattle.std.proofs.lemmas.Bool.{ltb-true, leb-false, eqb-true, eq-eqb}
 use Rattle.units.specs.declared.Measure.{Measure}
 use Rattle.reader.specs.declared.block.Block.{Block}
 use Rattle.reader.specs.declared.fault.LineFault.{LineFault}
 use Rattle.reader.specs.declared.fault.LineFault.TheVariants.{TooLong, ProgramFull}
-use Rattle.reader.specs.Lines.{cut}
-use Rattle.reader.specs.Questions.{verdict}
 use Rattle.store.specs.declared.fault.StoreFault.{StoreFault}
-use Rattle.store.specs.declared.fault.StoreFault.TheVariants.{OutOfRange, AlreadyStored, StoreFull, EntryOpen, NotOpen, NotClosable, Line}
+use Rattle.store.specs.declared.fault.StoreFault.TheVariants.{OutOfRange, AlreadyStored, StoreFull, EntryOpen, NotOpen, NotClosable}
 use Rattle.store.specs.Programs.{Program, Programs, empty, found, without, begun, read, joined_to}
 use Rattle.store.specs.Closing.{closable}
-use Rattle.store.specs.Entry.{first_no, open_questions, token, open_reply, opened, opened_unless, open_one, entered, added, added_to, close_reply_of, closed, closed_from, ended_with, end_reply, abandoned, deleted}
+use Rattle.store.specs.Entry.{first_no, open_questions, token, opened, opened_unless, open_one, entered, added, added_to, close_reply_of, closed, closed_from, ended_with, end_reply, abandoned, deleted}
 use Rattle.store.proofs.Tables.{both}
 use Rattle.store.specs.Laws.{Call, opening, adding, closing, abandoning, deleting, step, run, after, said, accepted, given, given_by, Stays, Entering, Stored}
 

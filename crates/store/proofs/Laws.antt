@@ -1,5 +1,5 @@
 -- The laws over runs.
-use Rattle.std.proofs.Common.{◌≡◌, ℕ, ◌<◌, ◌≤◌, Bool, true, false, cond, not, ◌&&◌, ◌||◌, eqb, ltb, leb, List, [], ◌∷◌, ◌++◌, length, is_some, Some, None, Ok, Err, Option, Result, unwrap_or, sym, refl, ap, ◌∙◌, subst, arith}
+use Rattle.std.proofs.Common.{◌≡◌, ℕ, ◌≤◌, Bool, true, false, cond, not, ◌&&◌, eqb, ltb, leb, List, [], ◌∷◌, ◌++◌, length, is_some, Some, None, Ok, Err, Option, Result, unwrap_or, sym, refl, ap, ◌∙◌, subst, arith}
 use Rattle.std.specs.Option.{option_or}
 use Rattle.std.proofs.lemmas.Bool.{ltb-false, leb-true, eqb-true, ne_eqb, and_parts}
 use Rattle.units.specs.declared.Measure.{Measure}
@@ -9,15 +9,14 @@ use Rattle.reader.specs.declared.block.Block.{Block}
 use Rattle.reader.specs.declared.fault.LineFault.{LineFault}
 use Rattle.reader.specs.declared.fault.LineFault.TheVariants.{TooLong, ProgramFull, Form, Order, Range}
 use Rattle.reader.specs.Lines.{Cut, cut, pieces, fault_in}
-use Rattle.reader.specs.Questions.{verdict, asks, judged, per_cent, first_bad, misplaced, outside, block_from}
-use Rattle.store.specs.declared.entry.Entry.{Entry}
+use Rattle.reader.specs.Questions.{asks, judged, per_cent, first_bad, misplaced, outside}
 use Rattle.store.specs.declared.fault.StoreFault.{StoreFault}
-use Rattle.store.specs.declared.fault.StoreFault.TheVariants.{OutOfRange, AlreadyStored, StoreFull, EntryOpen, NotOpen, NotClosable, Line}
+use Rattle.store.specs.declared.fault.StoreFault.TheVariants.{OutOfRange, AlreadyStored, StoreFull, EntryOpen, NotOpen, Line}
 use Rattle.store.specs.Programs.{Program, Programs, found, without, read, joined_to, line_reply}
 use Rattle.store.specs.Closing.{ends, fed, fits_at, none, each_fits, closable}
-use Rattle.store.specs.Entry.{first_no, open_questions, token, open_reply, opened, opened_unless, open_one, entered, added, added_to, add_reply, add_reply_to, closed, closed_from, ended_with, kept, abandoned, deleted}
-use Rattle.store.specs.Laws.{Call, after, motion_after, EndsOnce, Fed, Kept, Runs, Changes}
-use Rattle.store.proofs.Histories.{Held, Sound, held, all_found}
+use Rattle.store.specs.Entry.{first_no, open_questions, token, open_reply, opened_unless, open_one, entered, added_to, add_reply_to, closed_from, ended_with}
+use Rattle.store.specs.Laws.{Call, after, motion_after, EndsOnce, Fed, Runs, Changes}
+use Rattle.store.proofs.Histories.{Sound, held, all_found}
 
 never : {X : Type 0} → ◌≡◌ {A = ℕ} 0 1 → X
 never z = absurd (omega arith)

@@ -5,7 +5,6 @@ use Rattle.std.proofs.lemmas.List.Edits.{length-remove, get_or-remove_above}
 use Rattle.store.specs.declared.record.Record.{Record}
 use Rattle.store.specs.declared.table.Store.{Store}
 use Rattle.store.specs.Programs.{Program, Programs, program_of, programs_of, store_of, blank, in_table, found, without, Placed}
-use Rattle.store.specs.Entry.{entered, deleted}
 
 -- a search that has passed i programs
 abbrev pub Skipped : ℕ → List Program → ℕ → Type 0

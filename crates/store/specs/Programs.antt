@@ -1,5 +1,5 @@
 -- A small store: the stored programs, in the order of their closing, and the open entry.
-use Rattle.std.specs.Prelude.{◌≡◌, ℕ, ◌+◌, ◌<◌, Bool, true, false, cond, List, [], ◌∷◌, ◌++◌, map, length, take, drop, Some, None, Ok, Err, vec_items, Option, Result, ◌==◌, nat_lt, slice_index_or}
+use Rattle.std.specs.Prelude.{◌≡◌, ℕ, ◌+◌, ◌<◌, Bool, cond, List, [], ◌∷◌, ◌++◌, map, length, take, drop, Some, None, Ok, Err, vec_items, Option, Result, ◌==◌, nat_lt, slice_index_or}
 use Rattle.units.specs.declared.Measure.{Measure}
 use Rattle.units.specs.declared.Measure.TheVariants.{Millimetre}
 use Rattle.reader.specs.declared.block.Block.{Block}

@@ -1,5 +1,6 @@
 //! The program store: at most sixteen traverse programs of at most 64 blocks,
 //! each entered line by line under a token.
+#![tactic(auto)]
 
 pub mod entry;
 pub mod fault;

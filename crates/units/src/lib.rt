@@ -1,4 +1,5 @@
 //! The measure that an axis and a program count in.
+#![tactic(auto)]
 
 ghost use Rattle.std.specs.Prelude.{◌≡◌};
 ghost use Rattle.units.specs.Measures.{places, units_in, UnitsByPlaces};

@@ -1,4 +1,3 @@
-use Rattle.std.proofs.Common.{rules}
 use Rattle.reader.proofs.Numbers.{whole_too_large, digits_too_large}
 use Rattle.reader.proofs.number.units.Goals as goal
 

@@ -1,6 +1,6 @@
-use Rattle.std.proofs.Common.{◌≡◌, ◌+◌, ◌-◌, ◌*◌, ◌<◌, get_or, drop, sym, ap, ◌∙◌, arith, rules}
-use Rattle.reader.specs.Words.{onto, upto}
-use Rattle.reader.proofs.Numbers.{onto-more, onto-all, onto_grows, upto_some, upto-none, past_most}
+use Rattle.std.proofs.Common.{sym, ap, ◌∙◌, rules}
+use Rattle.reader.specs.Words.{upto}
+use Rattle.reader.proofs.Numbers.{onto-more, onto-all, upto_some, past_most}
 use Rattle.reader.proofs.number.value_upto.Goals as goal
 
 pub loop-b-preserved : goal.loop-b-preserved

@@ -1,4 +1,4 @@
-use Rattle.std.proofs.Common.{Some, sym, ap, ◌∙◌, rules}
+use Rattle.std.proofs.Common.{Some, sym, ap, ◌∙◌}
 use Rattle.reader.specs.Questions.{misplaced}
 use Rattle.reader.proofs.Passes.{pass_here, pass_on, pass_all, front}
 use Rattle.reader.proofs.order.in_order.Goals as goal

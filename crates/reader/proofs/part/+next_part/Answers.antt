@@ -1,4 +1,4 @@
-use Rattle.std.proofs.Common.{get_or, Some, None, Ok, Err, refl, rules}
+use Rattle.std.proofs.Common.{get_or, Some, Ok, Err, refl, rules}
 use Rattle.reader.proofs.Fronts.{rest}
 use Rattle.std.proofs.lemmas.Result.{err_from_is_err_and}
 use Rattle.reader.proofs.Cuts.{next_none, next_first, next_blank}

@@ -1,4 +1,4 @@
-use Rattle.std.proofs.Common.{Ok, subst, rules}
+use Rattle.std.proofs.Common.{Ok, subst}
 use Rattle.reader.specs.Lines.{Next, cut}
 use Rattle.reader.proofs.Tables.{filling_more}
 use Rattle.reader.proofs.part.parts_into.Goals as goal

@@ -1,4 +1,4 @@
-use Rattle.std.proofs.Common.{◌≡◌, [], map, take, drop, Some, None}
+use Rattle.std.proofs.Common.{◌≡◌, [], map, take, drop, None}
 use Rattle.reader.specs.Lines.{shown}
 use Rattle.reader.specs.Questions.{first_bad, outside, block_from}
 use Rattle.reader.proofs.values.block_of.Given as goal

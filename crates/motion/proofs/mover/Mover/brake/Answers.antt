@@ -1,4 +1,4 @@
-use Rattle.std.proofs.Common.{◌-◌, ap, arith}
+use Rattle.std.proofs.Common.{ap, arith}
 use Rattle.motion.specs.Travel.{way}
 use Rattle.motion.specs.View.{mover_ramp}
 use Rattle.motion.proofs.Way.{way_last}

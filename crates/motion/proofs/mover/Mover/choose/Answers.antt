@@ -1,6 +1,6 @@
-use Rattle.std.proofs.Common.{◌≡◌, ℕ, ◌+◌, ◌-◌, ◌*◌, ◌≤◌, Bool, true, false, sym, ap, ◌∙◌, arith}
+use Rattle.std.proofs.Common.{◌≡◌, ◌+◌, ◌-◌, sym, ap, ◌∙◌, arith}
 use Rattle.std.proofs.lemmas.Nat.{mul-le}
-use Rattle.motion.specs.Travel.{way, gain, fits}
+use Rattle.motion.specs.Travel.{way, fits}
 use Rattle.motion.specs.View.{mover_ramp, going_of}
 use Rattle.motion.proofs.Way.{way-none, way-more, way_last, way_bound}
 use Rattle.motion.proofs.Choice.{chose_up, chose_same, chose_down, chose_none, fits_parts, in_table}

@@ -1,4 +1,4 @@
-use Rattle.std.proofs.Common.{◌≡◌, ◌<◌, length, Some, Ok, vec_items, ap, ◌∙◌, subst, arith, rules}
+use Rattle.std.proofs.Common.{◌≡◌, length, Some, Ok, vec_items, ap, ◌∙◌, subst, arith, rules}
 use Rattle.reader.specs.Questions.{verdict}
 use Rattle.reader.specs.Answers.{Answers}
 use Rattle.store.specs.Programs.{read}
