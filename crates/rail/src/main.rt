@@ -2,6 +2,7 @@
 //!
 //! The script comes on standard input, one call a line. With `--explain` each
 //! answer is followed by a line in plain words, and an account ends the run.
+#![tactic(auto)]
 
 mod axis;
 mod bench;
