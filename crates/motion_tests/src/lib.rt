@@ -1,3 +1,5 @@
+#![tactic(auto)]
+
 // Tests of motion by table: every end of every range, ramps at their longest, moves at their shortest and longest.
 #[cfg(test)]
 mod tests {

@@ -1,4 +1,5 @@
 // Runs of store calls with the answers that the rules give them.
+#![tactic(auto)]
 
 #[cfg(test)]
 mod tests {
