@@ -1,7 +1,7 @@
 -- A text cut at the first mark.
 use Rattle.std.proofs.Common.{◌≡◌, ℕ, suc, ◌+◌, ◌-◌, ◌<◌, ◌≤◌, List, ◌∷◌, ◌++◌, length, get_or, take, drop, Some, None, Option, sym, ap, ◌∙◌, subst, add-one, arith, length-append, length-drop, drop-cons, Bor}
 use native.Mathlib.Nat.{sub-zero}
-use Rattle.std.specs.List.{AllByRecursion as All}
+use Rattle.std.specs.List.{AllByRecursion}
 use Rattle.rail.specs.Cuts.{Cut, left}
 use Rattle.std.proofs.lemmas.List.{take_all, take-append-drop}
 use Rattle.std.proofs.ByRecursion.{All-more}
@@ -17,21 +17,21 @@ parted text mark i h e =
     sym (take-append-drop i text)
     ∙ ap (λ (l : List ℕ). take i text ++ l) (drop-cons text i 0 h ∙ (ap (λ (b : ℕ). b ∷ drop (suc i) text) e ∙ ap (λ (n : ℕ). mark ∷ drop n text) (sym (add-one i))))
 
-pub found : (text : List ℕ) (mark i : ℕ) → i < length text → get_or text i 0 ≡ mark → All (Other mark) (take i text) → All (Other mark) (take (i - 0) text) × (text ≡ take (i - 0) text ++ (mark ∷ take (length text - (i + 1)) (drop (i + 1) text)))
+pub found : (text : List ℕ) (mark i : ℕ) → i < length text → get_or text i 0 ≡ mark → AllByRecursion (Other mark) (take i text) → AllByRecursion (Other mark) (take (i - 0) text) × (text ≡ take (i - 0) text ++ (mark ∷ take (length text - (i + 1)) (drop (i + 1) text)))
 found text mark i h e a =
     let z : i - 0 ≡ i = sub-zero i in
     let front : take i text ≡ take (i - 0) text = ap (λ (n : ℕ). take n text) (sym z) in
-    let P : List ℕ → Type 0 = All (Other mark) in (
+    let P : List ℕ → Type 0 = AllByRecursion (Other mark) in (
       subst P front a,
       parted text mark i h e ∙ (ap (λ (l : List ℕ). l ++ (mark ∷ drop (i + 1) text)) front ∙ ap (λ (l : List ℕ). take (i - 0) text ++ (mark ∷ l)) (sym (rest_is text i))),
     )
 
-pub further : (text : List ℕ) (mark i : ℕ) → i < length text → (get_or text i 0 ≡ mark → ⊥) → All (Other mark) (take i text) → All (Other mark) (take (i + 1) text)
+pub further : (text : List ℕ) (mark i : ℕ) → i < length text → (get_or text i 0 ≡ mark → ⊥) → AllByRecursion (Other mark) (take i text) → AllByRecursion (Other mark) (take (i + 1) text)
 further text mark i h n a = All-more (Other mark) text i 0 h a n
 
-pub nowhere : (text : List ℕ) (mark i : ℕ) → length text ≤ i → All (Other mark) (take i text) → All (Other mark) text
+pub nowhere : (text : List ℕ) (mark i : ℕ) → length text ≤ i → AllByRecursion (Other mark) (take i text) → AllByRecursion (Other mark) text
 nowhere text mark i h a =
-    let P : List ℕ → Type 0 = All (Other mark) in
+    let P : List ℕ → Type 0 = AllByRecursion (Other mark) in
     subst P (take_all i text h) a
 
 -- what follows a mark is shorter than what was cut

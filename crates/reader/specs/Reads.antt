@@ -1,6 +1,6 @@
 -- What a line is: blanks, words and remarks, each at its place.
 use Rattle.std.specs.Prelude.{◌≡◌, ℕ, ◌+◌, ◌-◌, ◌*◌, ◌^◌, ◌≤◌, Bool, true, false, List, [], ◌∷◌, ◌++◌, length, Some, None, Option, ◌≢◌}
-use Rattle.std.specs.List.{AllByRecursion as All}
+use Rattle.std.specs.List.{AllByRecursion}
 use Rattle.units.specs.declared.Measure.{Measure}
 use Rattle.reader.specs.declared.block.Preparatory.{Preparatory}
 use Rattle.reader.specs.declared.block.Value.{Value}
@@ -13,7 +13,7 @@ use Rattle.reader.specs.Lines.{Piece, word, remark, inside}
 
 -- each byte is of a kind; the first byte is not
 abbrev pub AllOf : (ℕ → Bool) → List ℕ → Type 0
-AllOf p bs = All (λ b. p b ≡ true) bs
+AllOf p bs = AllByRecursion (λ b. p b ≡ true) bs
 
 abbrev pub Stops : (ℕ → Bool) → List ℕ → Type 0
 Stops p [] = Unit {0}

@@ -1,5 +1,6 @@
 -- What every run of calls keeps: how the entry and each stored program came about.
 use Rattle.std.proofs.Common.{◌≡◌, ℕ, suc, ◌<◌, ◌≤◌, Bool, true, false, cond, not, eqb, ltb, leb, List, [], ◌∷◌, ◌++◌, length, is_some, Some, None, Ok, Err, Option, Result, sym, refl, ap, ◌∙◌, subst, append_assoc, arith}
+use Rattle.std.specs.List.{AllByRecursion}
 use Rattle.std.proofs.lemmas.List.{append-nil, length_push}
 use Rattle.std.proofs.lemmas.Bool.{ltb-true, leb-false, eqb-true, eq-eqb}
 use Rattle.units.specs.declared.Measure.{Measure}
@@ -15,23 +16,19 @@ use Rattle.store.proofs.Tables.{both}
 use Rattle.store.specs.Laws.{Call, opening, adding, closing, abandoning, deleting, step, run, after, said, accepted, given, given_by, Stays, Entering, Stored}
 
 -- every one of some programs
-abbrev pub All : (Program → Type 0) → List Program → Type 0
-All P [] = Unit {0}
-All P (p ∷ ps) = P p × All P ps
-
-all_push : (P : Program → Type 0) (ps : List Program) (q : Program) → All P ps → P q → All P (ps ++ q ∷ [])
+all_push : (P : Program → Type 0) (ps : List Program) (q : Program) → AllByRecursion P ps → P q → AllByRecursion P (ps ++ q ∷ [])
 all_push P [] q a h = (h, tt)
 all_push P (p ∷ ps) q a h = (a.0, all_push P ps q a.1 h)
 
-all_map : (P Q : Program → Type 0) → ((p : Program) → P p → Q p) → (ps : List Program) → All P ps → All Q ps
+all_map : (P Q : Program → Type 0) → ((p : Program) → P p → Q p) → (ps : List Program) → AllByRecursion P ps → AllByRecursion Q ps
 all_map P Q f [] a = tt
 all_map P Q f (p ∷ ps) a = (f p a.0, all_map P Q f ps a.1)
 
-all_without : (P : Program → Type 0) (n : ℕ) (ps : List Program) → All P ps → All P (without n ps)
+all_without : (P : Program → Type 0) (n : ℕ) (ps : List Program) → AllByRecursion P ps → AllByRecursion P (without n ps)
 all_without P n [] a = tt
-all_without P n (p ∷ ps) a = elim (eqb p.number n) as (λ b. All P (cond b ps (p ∷ without n ps))) [ true ↦ a.1 | false ↦ (a.0, all_without P n ps a.1) ]
+all_without P n (p ∷ ps) a = elim (eqb p.number n) as (λ b. AllByRecursion P (cond b ps (p ∷ without n ps))) [ true ↦ a.1 | false ↦ (a.0, all_without P n ps a.1) ]
 
-pub all_found : (P : Program → Type 0) (n : ℕ) (ps : List Program) (p : Program) → All P ps → found n ps ≡ Some p → P p
+pub all_found : (P : Program → Type 0) (n : ℕ) (ps : List Program) (p : Program) → AllByRecursion P ps → found n ps ≡ Some p → P p
 all_found P n [] p a e = let z : ◌≡◌ {A = ℕ} 0 1 = cc in absurd (omega arith)
 all_found P n (q ∷ ps) p a e =
     (elim (eqb q.number n) as (λ b. cond b (Some q) (found n ps) ≡ Some p → P p) [
@@ -87,10 +84,10 @@ EntrySound cs ps p = Entering cs p.number p.measure p.blocks × (length p.blocks
 
 pub record Held (cs : List Call) (s : Programs) : Type 0 where
   pub most : length s.stored ≤ 16
-  pub each : All (Sound cs) s.stored
+  pub each : AllByRecursion (Sound cs) s.stored
   pub entry : (p : Program) → s.entry ≡ Some p → EntrySound cs s.stored p
 
-each_more : (cs : List Call) (c : Call) (ps : List Program) → All (Sound cs) ps → All (Sound (cs ++ c ∷ [])) ps
+each_more : (cs : List Call) (c : Call) (ps : List Program) → AllByRecursion (Sound cs) ps → AllByRecursion (Sound (cs ++ c ∷ [])) ps
 each_more cs c ps a = all_map (Sound cs) (Sound (cs ++ c ∷ [])) (λ p h. (stored_more cs c p h.0, h.1)) ps a
 
 -- a call that changes nothing
