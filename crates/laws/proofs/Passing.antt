@@ -125,12 +125,11 @@ module _ (d : RawData) (m : Meaning) (zero : ℤ) (r : Bool) (t : Travel) (o : O
 
 drift_by : (d : RawData) (start target from n : ℤ) → InRange d → Near d.units d.pulses from start
     → Between from (pulses_by d target) n → Near d.units d.pulses n (placed_in (Some d) start target n)
-unfolding pulses_by placed_in nearest_by
+unfolding placed_in
 drift_by d start target from n i near b =
     drift d.units d.pulses i.2.0.0 i.2.1.0 start target from n near b
 
 arrives_by : (d : RawData) (target : ℤ) → InRange d → Near d.units d.pulses (pulses_by d target) target
-unfolding pulses_by
 arrives_by d target i = arrives d.units d.pulses i.2.0.0 i.2.1.0 target
 
 placed-between : (d : RawData) (start target n : ℤ) → Between start target (placed_in (Some d) start target n)

@@ -1,5 +1,5 @@
 -- The coordinate machine of one axis: what each act answers and leaves, and whole runs of acts.
-use Rattle.std.specs.Prelude.{ℕ, ◌+◌, Bool, true, false, cond, List, [], ◌∷◌, ℤ, pos, Some, None, Ok, Err, Result}
+use Rattle.std.specs.Prelude.{ℕ, ◌+◌, Bool, false, List, [], ◌∷◌, pos, None, Ok, Result}
 use Rattle.drives.specs.Meaning.{Meaning, levelled}
 use Rattle.motion.specs.declared.raw.RawData.{RawData}
 use Rattle.store.specs.Programs.{Programs}

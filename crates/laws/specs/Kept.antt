@@ -5,9 +5,9 @@ use Rattle.motion.specs.declared.raw.RawData.{RawData}
 use Rattle.motion.specs.Data.{InRange, Agree}
 use Rattle.motion.specs.Ramp.{ramp_of}
 use Rattle.motion.specs.Places.{pulses_by}
-use Rattle.motion.specs.Travel.{Going, passed_in}
+use Rattle.motion.specs.Travel.{passed_in}
 use Rattle.motion.specs.Laws.{Near, Safe}
-use Rattle.states.specs.State.{Course, Travel, Phase, standing, moving, braking, held, between, Work, AxisState, course_of}
+use Rattle.states.specs.State.{Travel, Phase, standing, moving, braking, held, between, Work, AxisState, course_of}
 
 -- a coordinate is within the limits
 abbrev pub InLimits : RawData → ℤ → Type 0

@@ -1,5 +1,5 @@
 -- Laws of the coordinate machine over every run of acts on a new axis.
-use Rattle.std.specs.Prelude.{◌≡◌, ℕ, ◌≤◌, max, Bool, true, false, cond, List, [], ◌∷◌, ◌++◌, ℤ, pos, ◌+ℤ◌, is_ok, Some, None, Ok, Err, Option, Result, ◌==◌}
+use Rattle.std.specs.Prelude.{◌≡◌, ℕ, ◌≤◌, max, Bool, true, cond, List, [], ◌∷◌, ◌++◌, ℤ, pos, ◌+ℤ◌, is_ok, None, Ok, ◌==◌}
 use Rattle.drives.specs.Meaning.{Meaning, Sound}
 use Rattle.drives.specs.Sending.{told}
 use Rattle.motion.specs.Travel.{Going, passing}

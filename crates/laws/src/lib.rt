@@ -1,1 +1,2 @@
 //! Theorems over whole runs of acts on one axis.
+#![tactic(auto)]

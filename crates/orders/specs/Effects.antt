@@ -1,11 +1,11 @@
 -- What an accepted order makes of an axis, and what a refused one does.
-use Rattle.std.specs.Prelude.{ℕ, Bool, true, false, cond, ℤ, ◌-ℤ◌, Some, None, Option, ◌==◌}
+use Rattle.std.specs.Prelude.{ℕ, true, cond, ℤ, ◌-ℤ◌, Some, None, Option, ◌==◌}
 use Rattle.drives.specs.Meaning.{Meaning}
 use Rattle.motion.specs.declared.raw.RawData.{RawData}
 use Rattle.motion.specs.Places.{pulses_by}
 use Rattle.states.specs.declared.fault.AxisFault.{AxisFault}
 use Rattle.states.specs.Faults.{cause_number}
-use Rattle.states.specs.State.{Course, Phase, standing, moving, braking, held, between, Work, Status, with_work, with_fault, with_phase, course_of, stopped}
+use Rattle.states.specs.State.{Phase, standing, moving, braking, held, between, Work, Status, with_work, with_fault, with_phase, course_of, stopped}
 use Rattle.states.specs.Courses.{opening}
 use Rattle.states.specs.Effects.{set_off}
 use Rattle.orders.specs.declared.plan.Plan.{Plan}

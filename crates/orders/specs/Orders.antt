@@ -1,5 +1,5 @@
 -- An order: what it is answered, and what it leaves.
-use Rattle.std.specs.Prelude.{ℕ, Bool, true, false, cond, ◌&&◌, ◌||◌, Some, None, Ok, Err, Option, Result, ◌==◌}
+use Rattle.std.specs.Prelude.{Bool, cond, ◌&&◌, ◌||◌, Ok, Err, Result, ◌==◌}
 use Rattle.drives.specs.Meaning.{Meaning}
 use Rattle.store.specs.Programs.{Programs}
 use Rattle.states.specs.declared.order.Order.{Order}

@@ -1,5 +1,5 @@
 -- The questions to an order, in their order, each with its fault; and what an accepted order does.
-use Rattle.std.specs.Prelude.{ℕ, Bool, true, false, cond, not, ◌||◌, List, [], ◌∷◌, ℤ, pos, ◌+ℤ◌, ◌-ℤ◌, is_some, Some, None, Ok, Err, Option, Result}
+use Rattle.std.specs.Prelude.{ℕ, Bool, true, false, cond, not, ◌||◌, [], ◌∷◌, ℤ, pos, ◌+ℤ◌, ◌-ℤ◌, is_some, Some, None, Ok, Err, Option, Result}
 use Rattle.units.specs.declared.Measure.{Measure}
 use Rattle.units.specs.declared.Measure.TheVariants.{Millimetre, Inch, Degree}
 use Rattle.drives.specs.Meaning.{Meaning}
@@ -7,10 +7,7 @@ use Rattle.drives.specs.declared.fault.DriveFault.TheVariants.{NotReadyToMove}
 use Rattle.motion.specs.declared.raw.RawData.{RawData}
 use Rattle.motion.specs.Places.{rate_by}
 use Rattle.store.specs.Programs.{Programs, found, measure_in}
-use Rattle.reader.specs.declared.block.Motion.{Motion}
-use Rattle.reader.specs.declared.block.Motion.TheVariants.{Rapid, Feed}
 use Rattle.states.specs.declared.order.Order.{Order}
-use Rattle.states.specs.declared.order.Command.{Command}
 use Rattle.states.specs.declared.fault.Cause.{Cause}
 use Rattle.states.specs.declared.fault.Cause.TheVariants.{NoMachineData, UnknownMode, NotAdmitted, StillBraking, NotStanding, NotReferenced, ValueOutside, NotStored, OtherMeasure, NothingHeld, HeldNotStored, ShiftOutside, OfDrive}
 use Rattle.states.specs.State.{Course, Phase, standing, moving, braking, held, between, Work, Status, stands, brakes}

@@ -1,4 +1,5 @@
 //! Orders to one axis: the questions in their order, and what an accepted order does.
+#![tactic(auto)]
 
 pub mod asking;
 pub mod effects;

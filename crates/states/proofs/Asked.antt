@@ -1,5 +1,5 @@
 -- Lists of questions: what an accepted and a refused list say, whatever is answered at the end.
-use Rattle.std.proofs.Common.{◌≡◌, Bool, true, false, cond, List, [], ◌∷◌, Ok, Err, Result, refl}
+use Rattle.std.proofs.Common.{◌≡◌, Bool, true, false, cond, [], ◌∷◌, Ok, Err, Result, refl}
 use Rattle.states.specs.declared.fault.Cause.{Cause}
 use Rattle.states.specs.Moves.{Questions, ◌asks◌}
 

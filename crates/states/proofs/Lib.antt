@@ -1,2 +1,3 @@
 pub mod Asked
 pub mod Wishes
+pub mod Pulses

@@ -1,5 +1,5 @@
 -- A program under way: how it opens, its rate and its targets.
-use Rattle.std.specs.Prelude.{ℕ, Bool, true, false, cond, ℤ, ◌+ℤ◌, Some, None, Option}
+use Rattle.std.specs.Prelude.{ℕ, None}
 use Rattle.std.specs.Option.{unwrap_or}
 use Rattle.reader.specs.declared.block.Motion.{Motion}
 use Rattle.reader.specs.declared.block.Motion.TheVariants.{Rapid, Feed}

@@ -1,10 +1,10 @@
 -- What orders and ticks make of the working values.
-use Rattle.std.specs.Prelude.{ℕ, Bool, true, false, ℤ, Some, None, Option}
+use Rattle.std.specs.Prelude.{ℕ, false, Some, None, Option}
 use Rattle.motion.specs.declared.raw.RawData.{RawData}
 use Rattle.states.specs.declared.aim.Aim.{Aim}
 use Rattle.states.specs.declared.fault.Cause.{Cause}
 use Rattle.states.specs.declared.fault.AxisFault.{AxisFault}
-use Rattle.states.specs.State.{Course, Travel, Phase, standing, moving, Work}
+use Rattle.states.specs.State.{Course, Travel, moving, Work}
 use Rattle.states.specs.Moves.{begun_in}
 
 -- a move from where the axis is

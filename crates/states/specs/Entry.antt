@@ -1,5 +1,5 @@
 -- Entering and deleting machine data.
-use Rattle.std.specs.Prelude.{◌≡◌, ℕ, Bool, true, false, cond, ℤ, pos, Some, None, Ok, Err, Option, Result}
+use Rattle.std.specs.Prelude.{◌≡◌, false, cond, ℤ, pos, Some, None, Ok, Err, Option, Result}
 use Rattle.drives.specs.Meaning.{Meaning}
 use Rattle.motion.specs.declared.raw.RawData.{RawData}
 use Rattle.motion.specs.declared.fault.DataFault.{DataFault}

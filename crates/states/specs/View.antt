@@ -1,5 +1,5 @@
 -- What the code's records say.
-use Rattle.std.specs.Prelude.{ℤ, Some, None, Option}
+use Rattle.std.specs.Prelude.{Some, None, Option}
 use Rattle.drives.specs.Meaning.{Meaning}
 use Rattle.motion.specs.declared.raw.RawData.{RawData}
 use Rattle.motion.specs.declared.mover.Mover.{Mover}

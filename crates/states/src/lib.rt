@@ -1,5 +1,6 @@
 //! The state of one axis without its drive: machine data with the move in progress,
 //! limit switches and working values, and what is asked of a move before it begins.
+#![tactic(auto)]
 
 pub mod aim;
 pub mod asking;

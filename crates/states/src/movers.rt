@@ -1,4 +1,4 @@
-ghost use Rattle.std.specs.Prelude.{◌≡◌};
+ghost use Rattle.std.specs.Prelude.{◌≡◌, min};
 ghost use Rattle.motion.specs.Travel.{passing};
 ghost use Rattle.states.specs.View.{raw_in, going_in};
 ghost use Rattle.states.specs.Moves.{ticked_in, braked_in, begun_in};
@@ -46,5 +46,12 @@ pub fn begin_in(machine: &mut Option<Mover>, aim: Aim)
     let Some(mover) = machine.as_mut() else {
         return;
     };
-    mover.begin(aim.rate, aim.distance);
+    mover.begin(narrowed(aim.rate), aim.distance);
+}
+
+// A rate past 32 bits is above every maximum frequency, and is held to it like the greatest of 32 bits.
+fn narrowed(rate: u64) -> u32
+    ensures { result ≡ min rate 4294967295 }
+{
+    rate.min(u32::MAX as u64) as u32
 }

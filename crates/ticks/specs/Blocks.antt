@@ -1,5 +1,5 @@
 -- Taking the next block of a program, and what follows when it is done.
-use Rattle.std.specs.Prelude.{ℕ, ◌+◌, Bool, true, false, cond, ◌&&◌, ◌||◌, ℤ, ◌+ℤ◌, Some, None, Ok, Err, Option, Result, ◌==◌}
+use Rattle.std.specs.Prelude.{ℕ, ◌+◌, Bool, false, cond, ◌&&◌, ◌||◌, ℤ, ◌+ℤ◌, Some, None, Ok, Err, Option, Result, ◌==◌}
 use Rattle.std.specs.Option.{unwrap_or, option_or}
 use Rattle.reader.specs.declared.block.Block.{Block}
 use Rattle.reader.specs.declared.block.Way.{Way}

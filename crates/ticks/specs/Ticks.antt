@@ -1,5 +1,5 @@
 -- A tick of one axis.
-use Rattle.std.specs.Prelude.{Bool, true, false, Some, None, Ok, Err, Option, Result, ◌==◌}
+use Rattle.std.specs.Prelude.{Some, None, Ok, Err, Option, Result, ◌==◌}
 use Rattle.drives.specs.Meaning.{Meaning}
 use Rattle.motion.specs.Travel.{Going}
 use Rattle.store.specs.Programs.{Programs}

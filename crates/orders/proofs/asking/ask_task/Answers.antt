@@ -12,7 +12,7 @@ returns-in-Jog c =
     let d = data_of c.args.machine.now in
     let g = going_in a.machine in
     rw c.in-Jog.is
-    (c.ask-go.ensures ∙ wished (λ rate target. go_verdict d rate target (reading_of c.args.reading) a.work.zero a.work.referenced) c.jog.result (rate_by d c.args.order.word) (jog_target d c.args.order (work_of g a.work)) (c.jog.ensures g))
+    (c.ask_go.ensures ∙ wished (λ rate target. go_verdict d rate target (reading_of c.args.reading) a.work.zero a.work.referenced) c.jog.result (rate_by d c.args.order.word) (jog_target d c.args.order (work_of g a.work)) (c.jog.ensures g))
 
 pub returns-in-Position : goal.returns-in-Position
 returns-in-Position c =
@@ -20,7 +20,7 @@ returns-in-Position c =
     let d = data_of c.args.machine.now in
     let g = going_in a.machine in
     rw c.in-Position.is
-    (c.ask-go-in-Position.ensures ∙ wished (λ rate target. go_verdict d rate target (reading_of c.args.reading) a.work.zero a.work.referenced) c.position.result (rate_by d c.args.order.word) (position_target c.args.order (work_of g a.work)) (c.position.ensures g))
+    (c.ask_go-in-Position.ensures ∙ wished (λ rate target. go_verdict d rate target (reading_of c.args.reading) a.work.zero a.work.referenced) c.position.result (rate_by d c.args.order.word) (position_target c.args.order (work_of g a.work)) (c.position.ensures g))
 
 pub returns-in-Relative : goal.returns-in-Relative
 returns-in-Relative c =
@@ -28,4 +28,4 @@ returns-in-Relative c =
     let d = data_of c.args.machine.now in
     let g = going_in a.machine in
     rw c.in-Relative.is
-    (c.ask-go-in-Relative.ensures ∙ wished (λ rate target. go_verdict d rate target (reading_of c.args.reading) a.work.zero a.work.referenced) c.relative.result (rate_by d c.args.order.word) (relative_target c.args.order (work_of g a.work)) (c.relative.ensures g))
+    (c.ask_go-in-Relative.ensures ∙ wished (λ rate target. go_verdict d rate target (reading_of c.args.reading) a.work.zero a.work.referenced) c.relative.result (rate_by d c.args.order.word) (relative_target c.args.order (work_of g a.work)) (c.relative.ensures g))

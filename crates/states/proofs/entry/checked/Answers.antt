@@ -2,9 +2,9 @@ use Rattle.std.proofs.Common.{rules}
 use Rattle.states.specs.Entry.{data_refusal}
 use Rattle.states.proofs.entry.checked.Goals as goal
 
-pub returns-in-err-checked : goal.returns-in-err-checked
+pub returns-in_err-checked : goal.returns-in_err-checked
 unfolding data_refusal
-returns-in-err-checked c = search rules
+returns-in_err-checked c = search rules
 
 pub returns : goal.returns
 unfolding data_refusal

@@ -11,6 +11,6 @@ returns c =
     let x = c.args.x.units in
     let m = reading_of c.args.reading in
     let w = work_of (going_in a.machine) a.work in
-    c.ask-target.ensures (going_in a.machine)
+    c.ask_target.ensures (going_in a.machine)
     ∙ ap (λ (d : RawData). target_verdict d run x m w) c.machine.ensures
     ∙ sym (ap (λ (o : Option RawData). block_verdict o run x m w) (ap raw_in c.in-Some.is))

@@ -13,5 +13,5 @@ returns c g =
     let w = c.args.work.now in
     let run = course_in c.args.run.now in
     let m = reading_of c.args.reading in
-    c.ask-move.ensures
+    c.ask_move.ensures
     ∙ wished (λ rate target. move_verdict d rate target m w.zero w.referenced) c.wish.result (course_rate d run) (block_target d run c.args.x.units (work_of g w)) (c.wish.ensures g)
