@@ -15,8 +15,8 @@ use store::Store;
 impl<D: Drive> Axis<D> {
     /// Machine data entry: 3, 4, 5. Entering is a zeroing.
     pub fn enter(&mut self, raw: RawData) -> Result<(), AxisFault>
-        ensures value { result ≡ enter_reply raw (state_of meaning self.old).status }
-        ensures after { state_of meaning self.new ≡ enter_axis raw (state_of meaning self.old) }
+        ensures value { result ≡ enter_reply raw (state_of D.Drive.meaning self.old).status }
+        ensures after { state_of D.Drive.meaning self.new ≡ enter_axis raw (state_of D.Drive.meaning self.old) }
     {
         let reading = self.reading();
         self.status.enter(reading, raw)
@@ -24,16 +24,16 @@ impl<D: Drive> Axis<D> {
 
     /// Machine data deletion: 3, 7.
     pub fn delete(&mut self) -> Result<(), AxisFault>
-        ensures value { result ≡ delete_reply (state_of meaning self.old).status }
-        ensures after { state_of meaning self.new ≡ delete_axis (state_of meaning self.old) }
+        ensures value { result ≡ delete_reply (state_of D.Drive.meaning self.old).status }
+        ensures after { state_of D.Drive.meaning self.new ≡ delete_axis (state_of D.Drive.meaning self.old) }
     {
         self.status.delete()
     }
 
     /// An order, with the programs in store. A refusal becomes the axis's fault.
     pub fn order(&mut self, store: &Store, order: Order) -> Result<(), AxisFault>
-        ensures value { result ≡ order_reply order (store_of store.now) (state_of meaning self.old).drive (state_of meaning self.old).status }
-        ensures after { state_of meaning self.new ≡ order_axis order (store_of store.now) (state_of meaning self.old) }
+        ensures value { result ≡ order_reply order (store_of store.now) (state_of D.Drive.meaning self.old).drive (state_of D.Drive.meaning self.old).status }
+        ensures after { state_of D.Drive.meaning self.new ≡ order_axis order (store_of store.now) (state_of D.Drive.meaning self.old) }
     {
         let reading = self.reading();
         orders::order(&mut self.status, reading, store, order)
@@ -41,7 +41,7 @@ impl<D: Drive> Axis<D> {
 
     /// The limit switches and the drive's readiness; nothing else changes.
     pub fn level(&mut self, levels: Levels)
-        ensures { state_of meaning self.new ≡ levels_step levels.begin levels.end levels.ready (state_of meaning self.old) }
+        ensures { state_of D.Drive.meaning self.new ≡ levels_step levels.begin levels.end levels.ready (state_of D.Drive.meaning self.old) }
     {
         self.status.switches = Switches {
             begin: levels.begin,
@@ -52,7 +52,7 @@ impl<D: Drive> Axis<D> {
 
     /// Mode, M number, coordinate, shift, actual value, rest, fault and feedback byte; nothing changes.
     pub fn observe(&self) -> Observation
-        ensures { result ≡ observed (state_of meaning self.now).status }
+        ensures { result ≡ observed (state_of D.Drive.meaning self.now).status }
     {
         self.status.observe()
     }

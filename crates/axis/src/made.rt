@@ -37,7 +37,7 @@ fn new_record() -> Record
 impl<D: Drive> Axis<D> {
     /// A new axis on a drive, which is switched off; its count stays.
     pub fn new(drive: D) -> Axis<D>
-        ensures { state_of meaning result ≡ new_axis (meaning drive) }
+        ensures { state_of D.Drive.meaning result ≡ new_axis (D.Drive.meaning drive) }
     {
         let mut drive = drive;
         drive.level(false);
@@ -49,14 +49,14 @@ impl<D: Drive> Axis<D> {
 
     /// The drive, to be asked.
     pub fn drive(&self) -> &D
-        ensures { meaning result.now ≡ (state_of meaning self.now).drive }
+        ensures { D.Drive.meaning result.now ≡ (state_of D.Drive.meaning self.now).drive }
     {
         &self.drive
     }
 
     /// Gives the drive back.
     pub fn into_drive(self) -> D
-        ensures { meaning result ≡ (state_of meaning self).drive }
+        ensures { D.Drive.meaning result ≡ (state_of D.Drive.meaning self).drive }
     {
         let Axis { drive, status: _ } = self;
         drive
@@ -64,7 +64,7 @@ impl<D: Drive> Axis<D> {
 
     // What the drive answers now.
     pub(crate) fn reading(&self) -> Reading
-        ensures { reading_of result ≡ (state_of meaning self.now).drive }
+        ensures { reading_of result ≡ (state_of D.Drive.meaning self.now).drive }
     {
         Reading {
             count: self.drive.count(),

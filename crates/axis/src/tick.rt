@@ -20,7 +20,7 @@ use ticks::moving::{direction_of, fail, is_ahead, settle, settle_braking};
 impl<D: Drive> Axis<D> {
     // A tick of motion.
     fn run_on(&mut self, journey: Journey)
-        ensures { state_of meaning self.new ≡ run_step (ticked_in (raw_in self.old.status.machine) (going_in self.old.status.machine)) (travel_of (going_in self.old.status.machine) journey) (state_of meaning self.old) }
+        ensures { state_of D.Drive.meaning self.new ≡ run_step (ticked_in (raw_in self.old.status.machine) (going_in self.old.status.machine)) (travel_of (going_in self.old.status.machine) journey) (state_of D.Drive.meaning self.old) }
     {
         let passed = tick_in(&mut self.status.machine);
         let _ = send(&mut self.drive, direction_of(journey), passed.pulses);
@@ -30,7 +30,7 @@ impl<D: Drive> Axis<D> {
 
     // A braking tick.
     fn slow_down(&mut self, journey: Journey)
-        ensures { state_of meaning self.new ≡ slow_step (braked_in (raw_in self.old.status.machine) (going_in self.old.status.machine)) (travel_of (going_in self.old.status.machine) journey) (state_of meaning self.old) }
+        ensures { state_of D.Drive.meaning self.new ≡ slow_step (braked_in (raw_in self.old.status.machine) (going_in self.old.status.machine)) (travel_of (going_in self.old.status.machine) journey) (state_of D.Drive.meaning self.old) }
     {
         let passed = brake_in(&mut self.status.machine);
         let _ = send(&mut self.drive, direction_of(journey), passed.pulses);
@@ -43,8 +43,8 @@ impl<D: Drive> Axis<D> {
     /// One millisecond of the axis, with the programs in store. What it does depends on what the
     /// axis is doing and on the levels.
     pub fn tick(&mut self, store: &Store) -> Result<(), AxisFault>
-        ensures value { result ≡ tick_reply (store_of store.now) (state_of meaning self.old) }
-        ensures after { state_of meaning self.new ≡ tick_step (store_of store.now) (state_of meaning self.old) }
+        ensures value { result ≡ tick_reply (store_of store.now) (state_of D.Drive.meaning self.old) }
+        ensures after { state_of D.Drive.meaning self.new ≡ tick_step (store_of store.now) (state_of D.Drive.meaning self.old) }
     {
         let reading = self.reading();
         let levels = self.levels();
@@ -74,7 +74,7 @@ impl<D: Drive> Axis<D> {
     }
 
     fn levels(&self) -> Levels
-        ensures { result ≡ record { begin = self.now.status.switches.begin; end = self.now.status.switches.end; ready = (state_of meaning self.now).drive.ready } }
+        ensures { result ≡ record { begin = self.now.status.switches.begin; end = self.now.status.switches.end; ready = (state_of D.Drive.meaning self.now).drive.ready } }
     {
         Levels {
             begin: self.status.switches.begin,
