@@ -1,4 +1,5 @@
 //! One axis over any drive: machine data, orders, levels, ticks and observation.
+#![tactic(auto)]
 
 use drives::drive::Drive;
 use states::Record;

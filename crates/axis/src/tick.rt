@@ -1,4 +1,5 @@
 ghost use Rattle.std.specs.Prelude.{◌≡◌};
+ghost use Rattle.drives.specs.Sending.{sent};
 ghost use Rattle.motion.specs.Travel.{Going};
 ghost use Rattle.store.specs.Programs.{store_of};
 ghost use Rattle.states.specs.View.{raw_in, going_in, travel_of};
@@ -8,14 +9,23 @@ ghost use Rattle.ticks.specs.Moving.{trouble as trouble_for};
 ghost use Rattle.axis.specs.View.{state_of};
 
 use crate::{Axis, Levels};
+use drives::direction::Direction;
 use drives::drive::Drive;
 use drives::fault::DriveFault;
-use drives::send::send;
 use states::movers::{brake_in, tick_in};
 use states::{AxisFault, Cause, Journey, State, Switches};
 use store::Store;
 use ticks::blocks::take;
 use ticks::moving::{direction_of, fail, is_ahead, settle, settle_braking};
+
+// The pulses of a tick, however many. A refused one leaves the drive as it is, and so does each after it.
+fn send_all<D: Drive>(drive: &mut D, direction: Direction, pulses: u64)
+    ensures { D.Drive.meaning drive.new ≡ sent direction pulses (D.Drive.meaning drive.old) }
+{
+    for _i in 0..pulses {
+        let _ = drive.pulse(direction);
+    }
+}
 
 impl<D: Drive> Axis<D> {
     // A tick of motion.
@@ -23,7 +33,7 @@ impl<D: Drive> Axis<D> {
         ensures { state_of D.Drive.meaning self.new ≡ run_step (ticked_in (raw_in self.old.status.machine) (going_in self.old.status.machine)) (travel_of (going_in self.old.status.machine) journey) (state_of D.Drive.meaning self.old) }
     {
         let passed = tick_in(&mut self.status.machine);
-        let _ = send(&mut self.drive, direction_of(journey), passed.pulses);
+        send_all(&mut self.drive, direction_of(journey), passed.pulses);
         let reading = self.reading();
         settle(&mut self.status, journey, reading, passed.ended);
     }
@@ -33,7 +43,7 @@ impl<D: Drive> Axis<D> {
         ensures { state_of D.Drive.meaning self.new ≡ slow_step (braked_in (raw_in self.old.status.machine) (going_in self.old.status.machine)) (travel_of (going_in self.old.status.machine) journey) (state_of D.Drive.meaning self.old) }
     {
         let passed = brake_in(&mut self.status.machine);
-        let _ = send(&mut self.drive, direction_of(journey), passed.pulses);
+        send_all(&mut self.drive, direction_of(journey), passed.pulses);
         let reading = self.reading();
         settle_braking(&mut self.status, journey, reading, passed.ended);
     }
