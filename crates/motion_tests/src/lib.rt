@@ -1,6 +1,6 @@
+// Tests of motion by table: every end of every range, ramps at their longest, moves at their shortest and longest.
 #![tactic(auto)]
 
-// Tests of motion by table: every end of every range, ramps at their longest, moves at their shortest and longest.
 #[cfg(test)]
 mod tests {
     use motion::{DataFault, MachineData, Mover, RawData};

@@ -51,7 +51,8 @@ pub(crate) fn all_digits(bytes: &[u8]) -> bool
 // `start` with the digits written after it, if that is at most `most`.
 // It ends at the first value past `most`, so that any number of digits fits.
 pub(crate) fn value_upto(start: u32, digits: &[u8], most: u32) -> Option<u32>
-    requires { (start ≤ most) × (most ≤ 100000000) }
+    requires start { start ≤ most }
+    requires most { most ≤ 100000000 }
     ensures value { result ≡ upto most (onto start digits.now) }
     ensures bound { IfSome result (λ n. n ≤ most) }
 {
@@ -75,7 +76,8 @@ pub(crate) struct Decimal<'a> {
 
 // Whether a number is negative, and the number without its sign.
 fn sign_of<'a>(number: &'a [u8]) -> (bool, &'a [u8])
-    ensures { (result.0 ≡ negative number.now) × (result.1.now ≡ body number.now) }
+    ensures sign { result.0 ≡ negative number.now }
+    ensures rest { result.1.now ≡ body number.now }
 {
     match number {
         [b'-', tail @ ..] => (true, tail),

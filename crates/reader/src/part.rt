@@ -96,7 +96,9 @@ fn word_at<'a>(
     at: usize,
     measure: Measure,
 ) -> Result<(Part<'a>, Rest<'a>), Malformed>
-    requires { (at + (1 + length tail.now) ≤ 80) × (((first ≢ 32)) × ((first ≢ 40))) }
+    requires room { at + (1 + length tail.now) ≤ 80 }
+    requires no_blank { first ≢ 32 }
+    requires no_remark { first ≢ 40 }
     ensures { Begins measure at (first ∷ tail.now) result }
 {
     let Some(letter) = letter_of(first) else {
@@ -143,7 +145,8 @@ pub(crate) fn parts_into<'a>(
     measure: Measure,
     table: &mut [Part<'a>],
 ) -> Result<usize, Malformed>
-    requires { (length line.now ≤ 80) × (length table.old ≡ 80) }
+    requires line { length line.now ≤ 80 }
+    requires table { length table.old ≡ 80 }
     ensures { Filled (cut measure 0 0 line.now) table.new result }
 {
     let mut rest = Rest { bytes: line, at: 0 };

@@ -35,7 +35,8 @@ impl Table {
 
     // Moves a record behind all others, where it is free.
     pub(super) fn free(&mut self, i: usize)
-        requires { (i < vec_len self.old.records) × (vec_len self.old.records ≤ vec_capacity self.old.records) }
+        requires there { i < vec_len self.old.records }
+        requires reserved { vec_len self.old.records ≤ vec_capacity self.old.records }
         ensures after { programs_of self.new ≡ (take i (programs_of self.old) ++ drop (i + 1) (programs_of self.old)) ++ slice_index_or (programs_of self.old) i blank ∷ [] }
         ensures length { vec_len self.new.records ≡ vec_len self.old.records }
         ensures capacity { vec_capacity self.new.records ≡ vec_capacity self.old.records }

@@ -7,4 +7,4 @@ pub split_at-requires : goal.split_at-requires
 split_at-requires c = search (rules, prefix_len-le-length)
 
 pub returns : goal.returns
-returns c = cut_word _ _ _ _ _ _ _ _ c.requires.1.0 c.requires.1.1 c.in-Some.ensures c.count.ensures c.split_at.ensures.front c.split_at.ensures.back c.if-not-well_formed.ensures
+returns c = cut_word _ _ _ _ _ _ _ _ c.requires.no_blank c.requires.no_remark c.in-Some.ensures c.count.ensures c.split_at.ensures.front c.split_at.ensures.back c.if-not-well_formed.ensures
