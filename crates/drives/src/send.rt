@@ -7,7 +7,7 @@ use crate::drive::Drive;
 use crate::fault::Refusal;
 
 /// Sends so many pulses, and stops at the first that is refused.
-pub fn send<D: Drive>(drive: &mut D, direction: Direction, pulses: u32) -> Result<(), Refusal>
+pub fn send<D: Drive>(drive: &mut D, direction: Direction, pulses: u64) -> Result<(), Refusal>
     ensures value { result ≡ told direction pulses (D.Drive.meaning drive.old) }
     ensures after { D.Drive.meaning drive.new ≡ sent direction pulses (D.Drive.meaning drive.old) }
     ensures reach { D.Drive.meaning drive.new ≡ at (reached direction pulses (D.Drive.meaning drive.old)) (D.Drive.meaning drive.old) }

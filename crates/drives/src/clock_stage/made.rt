@@ -11,7 +11,7 @@ impl ClockStage {
     pub fn new(count: i64) -> Result<ClockStage, DriveFault>
         ensures { Made count result }
     {
-        if count < -FARTHEST || count > FARTHEST {
+        if !(-FARTHEST..=FARTHEST).contains(&count) {
             return Err(DriveFault::NotMade);
         }
         Ok(ClockStage {

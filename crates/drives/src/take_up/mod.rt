@@ -74,13 +74,13 @@ impl<D: Drive> TakeUp<D> {
     }
 
     // The pulses that one accepted pulse sends below: the play too where it turns the flank.
-    fn passed(&self, direction: Direction) -> u32
+    fn passed(&self, direction: Direction) -> u64
         ensures { result ≡ passed self.now.play direction self.now.flank }
     {
-        match (direction, self.flank) {
-            (Direction::Forward, Direction::Forward) => 1,
-            (Direction::Backward, Direction::Backward) => 1,
-            _ => self.play as u32 + 1,
+        if direction == self.flank {
+            1
+        } else {
+            self.play as u64 + 1
         }
     }
 
