@@ -6,7 +6,7 @@ use Rattle.drives.specs.declared.direction.Direction.TheVariants.{Forward, Backw
 use Rattle.drives.specs.declared.fault.Refusal.{Refusal}
 use Rattle.drives.specs.Meaning.{Meaning, Sound, at, one, room, answered, pulsed, turned}
 use Rattle.drives.specs.Sending.{sent, told}
-use Rattle.drives.specs.TakeUp.{lead, above, fits, closed, layer, passed, beneath}
+use Rattle.drives.specs.Play.{lead, above, fits, closed, layer, passed, beneath}
 use Rattle.drives.proofs.Sends.{gone, Within, accepts, all-sent, all_told}
 
 -- a closed drive has no room

@@ -8,7 +8,7 @@ use Rattle.drives.specs.declared.replay.Act.{Act}
 use Rattle.drives.specs.declared.replay.Act.TheVariants.{Pulse, Level}
 use Rattle.drives.specs.Meaning.{Meaning, Sound, answered, pulsed, levelled, turned}
 use Rattle.drives.specs.Stage.{stage_at}
-use Rattle.drives.specs.TakeUp.{layer, beneath}
+use Rattle.drives.specs.Play.{layer, beneath}
 
 -- what one act, and a list of acts, makes of a drive
 abbrev pub acted : Act → Meaning → Meaning

@@ -1,52 +1,17 @@
 -- The take-up layer: it takes up a play of b pulses over any drive.
-use Rattle.std.specs.Prelude.{◌≡◌, ℕ, ◌+◌, Bool, true, false, cond, pos, ◌+ℤ◌, is_ok, Ok, Err, Result, int_le}
-use Rattle.drives.specs.declared.direction.Direction.{Direction}
-use Rattle.drives.specs.declared.direction.Direction.TheVariants.{Forward, Backward}
-use Rattle.drives.specs.declared.fault.DriveFault.{DriveFault}
+use Rattle.std.specs.Prelude.{◌≡◌, ℕ, true, false, Ok, Err, Result}
+use Rattle.drives.specs.declared.direction.Direction.TheVariants.{Forward}
 use Rattle.drives.specs.declared.fault.DriveFault.TheVariants.{NotMade}
 use Rattle.drives.specs.declared.take_up.TakeUp.{TakeUp}
-use Rattle.drives.specs.Meaning.{Meaning, answered}
-use Rattle.drives.specs.Sending.{sent}
-
--- how far the layer's count is above the count below
-abbrev pub lead : ℕ → Direction → ℕ
-lead b Forward = 0
-lead b Backward = b
-
--- the layer over a drive that leaves room for the play: the ends are those below, the least plus the play
-abbrev pub above : ℕ → Direction → Meaning → Meaning
-above b f m = record { count = m.count +ℤ pos (lead b f); least = m.least +ℤ pos b; greatest = m.greatest; ready = m.ready }
-
--- does the drive below leave room for the play, on the side of the flank?
-abbrev pub fits : ℕ → Direction → Meaning → Bool
-fits b Forward m = int_le (m.least +ℤ pos b) m.count
-fits b Backward m = int_le (m.count +ℤ pos b) m.greatest
-
--- a drive that can go nowhere: its ends are its count
-abbrev pub closed : Meaning → Meaning
-closed m = record { count = m.count; least = m.count; greatest = m.count; ready = m.ready }
-
--- what a layer means. A layer that was made leaves room, and no call takes it away, so that
--- `closed` never comes about; it is there for every value of the type to have a meaning.
-abbrev pub layer : ℕ → Direction → Meaning → Meaning
-layer b f m = cond (fits b f m) (above b f m) (closed m)
+use Rattle.drives.specs.declared.take_up.NotLaid.{NotLaid}
+use Rattle.drives.specs.Meaning.{Meaning}
+use Rattle.drives.specs.Play.{above, fits, layer}
 
 abbrev pub layered : {D : Type 0} → (D → Meaning) → TakeUp D → Meaning
 layered meaning t = layer t.play t.flank (meaning t.below)
 
--- the pulses that go below for one accepted pulse: the play first where it turns the flank
-abbrev pub passed : ℕ → Direction → Direction → ℕ
-passed b Forward Forward = 1
-passed b Backward Backward = 1
-passed b Forward Backward = b + 1
-passed b Backward Forward = b + 1
-
--- what a pulse d leaves of the drive below
-abbrev pub beneath : ℕ → Direction → Direction → Meaning → Meaning
-beneath b d f m = cond (is_ok (answered d (layer b f m))) (sent d (passed b d f) m) m
-
 -- what making a layer of the play b over d gives; a refusal hands the drive back
-abbrev pub Laid : {D : Type 0} → (D → Meaning) → D → ℕ → Result (TakeUp D) (D × DriveFault) → Type 0
+abbrev pub Laid : {D : Type 0} → (D → Meaning) → D → ℕ → Result (TakeUp D) (NotLaid D) → Type 0
 Laid meaning d b (Ok t) =
     (fits b Forward (meaning d) ≡ true) × (t.below ≡ d) × (t.play ≡ b) × (t.flank ≡ Forward) × (layered meaning t ≡ above b Forward (meaning d))
-Laid meaning d b (Err back) = (fits b Forward (meaning d) ≡ false) × (back.0 ≡ d) × (back.1 ≡ NotMade)
+Laid meaning d b (Err back) = (fits b Forward (meaning d) ≡ false) × (back.below ≡ d) × (back.fault ≡ NotMade)

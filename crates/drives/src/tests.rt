@@ -12,13 +12,6 @@ fn stage(count: i64) -> Result<ClockStage, DriveFault> {
     Ok(stage)
 }
 
-fn layer<D: Drive + Drop>(below: D, play: u16) -> Result<TakeUp<D>, DriveFault> {
-    match TakeUp::new(below, play) {
-        Ok(layer) => Ok(layer),
-        Err(back) => Err(back.1),
-    }
-}
-
 // (direction, count of the layer, count below), one row a pulse
 const PLAY_OF_THREE: [(Direction, i64, i64); 4] = [
     (Direction::Forward, 1, 1),
@@ -29,7 +22,7 @@ const PLAY_OF_THREE: [(Direction, i64, i64); 4] = [
 
 #[test]
 fn play_is_taken_up_where_the_flank_turns(rt: HostRuntime) -> Result<(), Fail> {
-    let mut screw = layer(stage(0)?, 3)?;
+    let mut screw = TakeUp::new(stage(0)?, 3)?;
     for (direction, count, below) in PLAY_OF_THREE {
         screw.pulse(direction)?;
         let counts = screw.counts();
@@ -41,7 +34,7 @@ fn play_is_taken_up_where_the_flank_turns(rt: HostRuntime) -> Result<(), Fail> {
 
 #[test]
 fn layers_stand_on_layers(rt: HostRuntime) -> Result<(), Fail> {
-    let mut outer = layer(layer(stage(0)?, 2)?, 5)?;
+    let mut outer = TakeUp::new(TakeUp::new(stage(0)?, 2)?, 5)?;
     send(&mut outer, Direction::Forward, 3)?;
     outer.pulse(Direction::Backward)?;
     assert_eq!(rt; outer.count(), 2);
@@ -71,12 +64,12 @@ fn a_drive_ends_and_waits_until_it_is_ready(rt: HostRuntime) -> Result<(), Fail>
 
 #[test]
 fn a_layer_is_made_with_room_for_its_play(rt: HostRuntime) -> Result<(), Fail> {
-    assert!(rt; layer(stage(7 - FARTHEST)?, 8).is_err());
-    let lowest = layer(stage(8 - FARTHEST)?, 8)?;
+    assert!(rt; TakeUp::new(stage(7 - FARTHEST)?, 8).is_err());
+    let lowest = TakeUp::new(stage(8 - FARTHEST)?, 8)?;
     assert_eq!(rt; lowest.count(), lowest.least());
-    let mut free = layer(stage(0)?, 0)?;
+    let mut free = TakeUp::new(stage(0)?, 0)?;
     free.pulse(Direction::Backward)?;
     assert_eq!(rt; free.counts().below, -1);
-    assert_eq!(rt; layer(stage(0)?, u16::MAX)?.greatest(), FARTHEST);
+    assert_eq!(rt; TakeUp::new(stage(0)?, u16::MAX)?.greatest(), FARTHEST);
     Ok(())
 }

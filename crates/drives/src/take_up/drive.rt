@@ -1,6 +1,7 @@
 ghost use Rattle.std.specs.Prelude.{◌≡◌};
 ghost use Rattle.drives.specs.Meaning.{answered, pulsed, levelled, turned};
-ghost use Rattle.drives.specs.TakeUp.{layered, beneath};
+ghost use Rattle.drives.specs.Play.{beneath};
+ghost use Rattle.drives.specs.TakeUp.{layered};
 ghost use Rattle.std.proofs.Common.{rules};
 
 use crate::direction::Direction;

@@ -1,6 +1,7 @@
 ghost use Rattle.std.specs.Prelude.{◌≡◌};
 ghost use Rattle.drives.specs.Laws.{layer_of, both, PlayOfThree, NoPlay};
-ghost use Rattle.drives.specs.TakeUp.{fits, passed, Laid};
+ghost use Rattle.drives.specs.Play.{fits, passed};
+ghost use Rattle.drives.specs.TakeUp.{Laid};
 
 use crate::direction::Direction;
 use crate::drive::Drive;
@@ -24,14 +25,32 @@ pub struct TakeUp<D: Drive> {
     flank: Direction,
 }
 
+/// Why a layer was not made, and the drive that was to be below it.
+#[derive(Drop)]
+pub struct NotLaid<D> {
+    pub below: D,
+    pub fault: DriveFault,
+}
+
+impl<D: Drop> From<NotLaid<D>> for DriveFault {
+    ghost from_gives = { λ refused fault. fault ≡ refused.fault };
+
+    fn from(refused: NotLaid<D>) -> DriveFault {
+        refused.fault
+    }
+}
+
 impl<D: Drive> TakeUp<D> {
     /// A layer with its flank forward. It is made only where the count below is at
     /// least the play above its least; else the drive is handed back.
-    pub fn new(below: D, play: u16) -> Result<TakeUp<D>, (D, DriveFault)>
+    pub fn new(below: D, play: u16) -> Result<TakeUp<D>, NotLaid<D>>
         ensures { Laid D.Drive.meaning below play result }
     {
         if below.least() + play as i64 > below.count() {
-            return Err((below, DriveFault::NotMade));
+            return Err(NotLaid {
+                below,
+                fault: DriveFault::NotMade,
+            });
         }
         Ok(TakeUp {
             below,

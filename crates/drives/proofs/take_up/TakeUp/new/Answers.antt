@@ -1,6 +1,6 @@
 use Rattle.std.proofs.Common.{◌≡◌, true, refl, arith}
 use Rattle.std.proofs.lemmas.Int.{ints}
-use Rattle.drives.specs.TakeUp.{fits}
+use Rattle.drives.specs.Play.{fits}
 use Rattle.drives.specs.declared.direction.Direction.TheVariants.{Forward}
 use Rattle.drives.proofs.Play.{open_is}
 use Rattle.drives.proofs.take_up.TakeUp.new.Goals as goal
