@@ -11,7 +11,7 @@ pub const FARTHEST: i64 = 1_000_000_000_000;
 
 /// The stage at the bottom: it gives each pulse to the motor as a clock edge and
 /// keeps the direction level beside it. Its ends are the widest.
-#[derive(Drop)]
+#[derive(Debug, Drop)]
 pub struct ClockStage {
     count: i64,
     direction: Direction,

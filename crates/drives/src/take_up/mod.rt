@@ -18,7 +18,7 @@ pub struct Counts {
 
 /// A layer over any drive that takes up the play of its screw: where a pulse
 /// turns the flank, the play is sent below first.
-#[derive(Drop)]
+#[derive(Debug, Drop)]
 pub struct TakeUp<D: Drive> {
     below: D,
     play: u16,
@@ -26,7 +26,7 @@ pub struct TakeUp<D: Drive> {
 }
 
 /// Why a layer was not made, and the drive that was to be below it.
-#[derive(Drop)]
+#[derive(Debug, Drop)]
 pub struct NotLaid<D> {
     pub below: D,
     pub fault: DriveFault,
