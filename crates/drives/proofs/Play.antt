@@ -1,25 +1,13 @@
 -- An accepted pulse of a take-up layer.
-use Rattle.std.proofs.Common.{◌≡◌, ℕ, Bool, true, false, cond, ℤ, pos, ◌+ℤ◌, is_ok, Ok, Result, sym, refl, ap, ◌∙◌, arith}
+use Rattle.std.proofs.Common.{◌≡◌, ℕ, Bool, true, cond, ℤ, pos, ◌+ℤ◌, is_ok, Ok, Result, sym, refl, ap, ◌∙◌, arith}
 use Rattle.std.proofs.lemmas.Int.{ints}
 use Rattle.drives.specs.declared.direction.Direction.{Direction}
 use Rattle.drives.specs.declared.direction.Direction.TheVariants.{Forward, Backward}
 use Rattle.drives.specs.declared.fault.Refusal.{Refusal}
 use Rattle.drives.specs.Meaning.{Meaning, Sound, at, one, room, answered, pulsed, turned}
 use Rattle.drives.specs.Sending.{sent, told}
-use Rattle.drives.specs.Play.{lead, above, fits, closed, layer, passed, beneath}
+use Rattle.drives.specs.Play.{lead, above, fits, layer, passed, beneath}
 use Rattle.drives.proofs.Sends.{gone, Within, accepts, all-sent, all_told}
-
--- a closed drive has no room
-shut : (d : Direction) (m : Meaning) → room d (closed m) ≡ false
-shut Forward m = grind (arith, ints)
-shut Backward m = grind (arith, ints)
-
-room_open : (o : Bool) (d : Direction) (x m : Meaning) → room d (cond o x (closed m)) ≡ true → o ≡ true
-room_open true d x m h = refl
-room_open false d x m h = sym (shut d m) ∙ h
-
-room_fits : (b : ℕ) (d f : Direction) (m : Meaning) → room d (layer b f m) ≡ true → fits b f m ≡ true
-room_fits b d f m h = room_open (fits b f m) d (above b f m) m h
 
 pub open_is : (b : ℕ) (f : Direction) (m : Meaning) → fits b f m ≡ true → layer b f m ≡ above b f m
 open_is b f m h = cc
@@ -50,27 +38,30 @@ goes d m h r = cc
 
 -- what the layer and the drive below owe, with x the drive below after the pulses that were passed on
 pub record Owed (b : ℕ) (d f : Direction) (m : Meaning) (r : Result (Unit {0}) Refusal) (x : Meaning) : Type 0 where
+  pub room_for_play : fits b d x ≡ true
   pub value : r ≡ answered d (layer b f m)
   pub after : layer b d x ≡ pulsed d (layer b f m)
   pub below : x ≡ beneath b d f m
   pub flank : d ≡ turned r d f
 
-pub owed : (b : ℕ) (d f : Direction) (m : Meaning) (r : Result (Unit {0}) Refusal) (x : Meaning) → Sound m → m.ready ≡ true → room d (layer b f m) ≡ true → r ≡ told d (passed b d f) m → x ≡ sent d (passed b d f) m → Owed b d f m r x
-owed b d f m r x s h o p q =
-    let k = passed b d f in
-    let ft : fits b f m ≡ true = room_fits b d f m o in
+pub owed : (b k : ℕ) (d f : Direction) (m x : Meaning) (r : Result (Unit {0}) Refusal) {ready roomy : Bool} → Sound m → fits b f m ≡ true → ready ≡ m.ready → ready ≡ true → roomy ≡ room d (layer b f m) → roomy ≡ true → k ≡ passed b d f → r ≡ told d k m → x ≡ sent d k m → Owed b d f m r x
+owed b k d f m x r s ft h h' o o' e p q =
     let is : layer b f m ≡ above b f m = open_is b f m ft in
-    let ra : room d (above b f m) ≡ true = ap (room d) (sym is) ∙ o in
-    let w : Within d k m = passed-within b d f m s ft ra in
-    let ok : answered d (layer b f m) ≡ Ok tt = ap (answered d) is ∙ accepts d (above b f m) h ra in
-    let rok : r ≡ Ok tt = p ∙ all_told d k m s h w in
+    let has_room : room d (above b f m) ≡ true = cc in
+    let is_ready : m.ready ≡ true = cc in
+    let within : Within d (passed b d f) m = passed-within b d f m s ft has_room in
+    let ok : answered d (layer b f m) ≡ Ok tt = cc in
+    let all_ok : r ≡ Ok tt = p ∙ (ap (λ n. told d n m) e ∙ all_told d (passed b d f) m s is_ready within) in
+    let all_gone : x ≡ at (gone d (passed b d f) m) m = q ∙ (ap (λ n. sent d n m) e ∙ all-sent d (passed b d f) m s is_ready within) in
+    let next : fits b d x ≡ true = ap (fits b d) all_gone ∙ next_fits b d f m s ft has_room in
     record {
-      value = rok ∙ sym ok;
+      room_for_play = next;
+      value = cc;
       after =
-          ap (layer b d) (q ∙ all-sent d k m s h w)
-          ∙ (open_is b d (at (gone d k m) m) (next_fits b d f m s ft ra)
+          open_is b d x next
+          ∙ (ap (above b d) all_gone
           ∙ (ap (λ (n : ℤ). at n (above b f m)) (next_count b d f m)
-          ∙ (sym (goes d (above b f m) h ra) ∙ ap (pulsed d) (sym is))));
-      below = q ∙ ap (λ (a : Result (Unit {0}) Refusal). cond (is_ok a) (sent d k m) m) (sym ok);
-      flank = ap (λ (a : Result (Unit {0}) Refusal). turned a d f) (sym rok);
+          ∙ (sym (goes d (above b f m) is_ready has_room) ∙ ap (pulsed d) (sym is))));
+      below = cc;
+      flank = cc;
     }

@@ -2,6 +2,7 @@
 use Rattle.std.specs.Prelude.{◌≡◌, ℕ, true, List, [], ◌∷◌, ℤ, pos, negsuc}
 use Rattle.drives.specs.declared.direction.Direction.{Direction}
 use Rattle.drives.specs.declared.direction.Direction.TheVariants.{Forward, Backward}
+use Rattle.drives.specs.declared.drive.Drive.{Ghosts}
 use Rattle.drives.specs.declared.take_up.Counts.{Counts}
 use Rattle.drives.specs.declared.take_up.TakeUp.{TakeUp}
 use Rattle.drives.specs.declared.replay.Act.{Act}
@@ -33,7 +34,7 @@ pub record Layer : Type 0 where
   pub flank : Direction
   pub below : Meaning
 
-abbrev pub layer_of : {D : Type 0} → (D → Meaning) → TakeUp D → Layer
+abbrev pub layer_of : {D : Type 0} {g : Ghosts D} → (D → Meaning) → TakeUp D g → Layer
 layer_of meaning t = record { play = t.play; flank = t.flank; below = meaning t.below }
 
 abbrev pub layer_means : Layer → Meaning

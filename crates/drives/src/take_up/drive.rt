@@ -1,6 +1,6 @@
 ghost use Rattle.std.specs.Prelude.{◌≡◌};
 ghost use Rattle.drives.specs.Meaning.{answered, pulsed, levelled, turned};
-ghost use Rattle.drives.specs.Play.{beneath};
+ghost use Rattle.drives.specs.Play.{beneath, passed};
 ghost use Rattle.drives.specs.TakeUp.{layered};
 ghost use Rattle.std.proofs.Common.{rules};
 
@@ -9,6 +9,19 @@ use crate::drive::Drive;
 use crate::fault::Refusal;
 use crate::send::send;
 use crate::take_up::TakeUp;
+
+impl<D: Drive> TakeUp<D> {
+    // The pulses that one accepted pulse sends below: the play too where it turns the flank.
+    fn passed(&self, direction: Direction) -> u64
+        ensures { result ≡ passed self.now.play direction self.now.flank }
+    {
+        if direction == self.flank {
+            1
+        } else {
+            self.play as u64 + 1
+        }
+    }
+}
 
 impl<D: Drive> Drive for TakeUp<D> {
     ghost meaning = { layered D.Drive.meaning };
@@ -43,9 +56,6 @@ impl<D: Drive> Drive for TakeUp<D> {
     }
 
     fn count(&self) -> i64 {
-        if !self.fits() {
-            return self.below.count();
-        }
         match self.flank {
             Direction::Forward => self.below.count(),
             Direction::Backward => self.below.count() + self.play as i64,
@@ -53,16 +63,10 @@ impl<D: Drive> Drive for TakeUp<D> {
     }
 
     fn least(&self) -> i64 {
-        if !self.fits() {
-            return self.below.count();
-        }
         self.below.least() + self.play as i64
     }
 
     fn greatest(&self) -> i64 {
-        if !self.fits() {
-            return self.below.count();
-        }
         self.below.greatest()
     }
 
