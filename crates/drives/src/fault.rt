@@ -11,15 +11,15 @@ pub enum Refusal {
     Ended,
 }
 
-/// The faults of the drive layer.
+/// The faults of the drive layer, each with the number under which it is reported.
 #[derive(Clone, Copy, PartialEq, Eq, Debug)]
 pub enum DriveFault {
     /// A drive cannot be made at this count.
-    NotMade,
+    NotMade = 2,
     /// The drive is not ready when a move is to begin.
-    NotReadyToMove,
+    NotReadyToMove = 21,
     /// The drive is not ready while a move is under way.
-    NotReadyInMotion,
+    NotReadyInMotion = 24,
 }
 
 impl DriveFault {
@@ -27,10 +27,6 @@ impl DriveFault {
     pub fn number(self) -> u8
         ensures { result ≡ drive_number self }
     {
-        match self {
-            DriveFault::NotMade => 2,
-            DriveFault::NotReadyToMove => 21,
-            DriveFault::NotReadyInMotion => 24,
-        }
+        self as u8
     }
 }

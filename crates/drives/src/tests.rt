@@ -3,7 +3,7 @@ use crate::direction::Direction;
 use crate::drive::Drive;
 use crate::fault::{DriveFault, Refusal};
 use crate::send::send;
-use crate::take_up::TakeUp;
+use crate::take_up::{Counts, TakeUp};
 use std::test::Fail;
 
 fn stage(count: i64) -> Result<ClockStage, DriveFault> {
@@ -23,11 +23,9 @@ const PLAY_OF_THREE: [(Direction, i64, i64); 4] = [
 #[test]
 fn play_is_taken_up_where_the_flank_turns(rt: HostRuntime) -> Result<(), Fail> {
     let mut screw = TakeUp::new(stage(0)?, 3)?;
-    for (direction, count, below) in PLAY_OF_THREE {
+    for (direction, layer, below) in PLAY_OF_THREE {
         screw.pulse(direction)?;
-        let counts = screw.counts();
-        assert_eq!(rt; counts.layer, count);
-        assert_eq!(rt; counts.below, below);
+        assert_eq!(rt; screw.counts(), Counts { layer, below });
     }
     Ok(())
 }

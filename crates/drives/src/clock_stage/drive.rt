@@ -5,7 +5,7 @@ ghost use Rattle.std.proofs.Common.{rules, arith};
 
 use crate::clock_stage::{ClockStage, FARTHEST};
 use crate::direction::Direction;
-use crate::drive::Drive;
+use crate::drive::{Drive, accept};
 use crate::fault::Refusal;
 
 impl Drive for ClockStage {
@@ -18,12 +18,7 @@ impl Drive for ClockStage {
         ensures after { stage_of self.new ≡ pulsed direction (stage_of self.old) }
         ensures direction { self.new.direction ≡ turned result direction self.old.direction }
     {
-        if !self.ready {
-            return Err(Refusal::NotReady);
-        }
-        if !self.has_room(direction) {
-            return Err(Refusal::Ended);
-        }
+        accept(self.ready(), self.has_room(direction))?;
         self.direction = direction;
         match direction {
             Direction::Forward => self.count += 1,
