@@ -1,13 +1,11 @@
-use Rattle.drives.proofs.Acts.{replayed_next, replayed-all, ends_stay}
+use Rattle.std.proofs.Common.{arith}
+use Rattle.std.proofs.lemmas.Grind.{common_steps}
+use Rattle.std.proofs.lemmas.List.{take_more}
+use Rattle.drives.proofs.Acts.{replayed-more, ends_stay}
 use Rattle.drives.proofs.replay.replay.Goals as goal
 
 pub loop-act-preserved : goal.loop-act-preserved
-loop-act-preserved g c =
-    replayed_next c.args.acts.now c.loop-act.act-index _ (g.D.Drive.meaning c.args.drive.now) _ _ c.loop-act-test.true c.loop-act.invariant c.perform.ensures.after
+loop-act-preserved g c = grind (arith, common_steps, take_more, replayed-more)
 
-pub returns : goal.returns
-returns g c =
-    record {
-      after = replayed-all c.args.acts.now c.loop-act.act-index (g.D.Drive.meaning c.args.drive.now) _ c.loop-act-test.false c.loop-act.invariant;
-      ends = ends_stay;
-    }
+pub returns-clause-ends : goal.returns-clause-ends
+returns-clause-ends g c = ends_stay

@@ -17,21 +17,9 @@ returns-in_err-pulse g c =
     record { value = p.1 ∙ (ap Err p.2 ∙ sym o.0); after = after; reach = after ∙ reach d k start (g.met.D.Drive.sound c.args.drive.now) }
 
 pub loop-i-preserved : goal.loop-i-preserved
-loop-i-preserved g c =
-    let m = g.D.Drive.meaning in
-    let d = c.args.direction in
-    let i = c.loop-i._i in
-    let start = m c.args.drive.now in (
-      c.pulse.ensures.after ∙ (ap (pulsed d) c.loop-i.invariant.0 ∙ sym (sent-more d i start)),
-      told_more d i start ∙ (ap (answered d) (sym c.loop-i.invariant.0) ∙ (sym c.pulse.ensures.value ∙ c.in_ok-pulse.was)),
-    )
+loop-i-preserved g c = grind (arith, sent-more, told_more)
 
-pub returns : goal.returns
-returns g c =
-    let m = g.D.Drive.meaning in
-    let start = m c.args.drive.now in
-    let d = c.args.direction in
-    let k = c.args.pulses in
-    let all : c.loop-i._i ≡ k = omega arith in
-    let after = c.loop-i.invariant.0 ∙ ap (λ n. sent d n start) all in
-    record { value = sym c.loop-i.invariant.1 ∙ ap (λ n. told d n start) all; after = after; reach = after ∙ reach d k start (g.met.D.Drive.sound c.args.drive.now) }
+pub returns-clause-reach : goal.returns-clause-reach
+returns-clause-reach g c =
+    let r = reach c.args.direction c.args.pulses _ (g.met.D.Drive.sound c.args.drive.now) in
+    grind arith
