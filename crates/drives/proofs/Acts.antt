@@ -1,6 +1,5 @@
 -- Lists of acts.
-use Rattle.std.proofs.Common.{◌≡◌, ℕ, ◌+◌, ◌<◌, ◌≤◌, Bool, true, false, cond, List, [], ◌∷◌, ◌++◌, length, get_or, take, sym, refl, ap, ◌∙◌}
-use Rattle.std.proofs.lemmas.List.{take_all, take_more}
+use Rattle.std.proofs.Common.{◌≡◌, Bool, true, false, cond, List, [], ◌∷◌, ◌++◌, refl, ◌∙◌}
 use Rattle.drives.specs.declared.replay.Act.{Act}
 use Rattle.drives.specs.declared.replay.Act.TheVariants.{Pulse, Level}
 use Rattle.drives.specs.Meaning.{Meaning, room}
@@ -30,11 +29,3 @@ ends_stay (a ∷ acts) m =
 pub replayed-more : (acts : List Act) (a : Act) (m : Meaning) → replayed (acts ++ (a ∷ [])) m ≡ acted a (replayed acts m)
 replayed-more [] a m = refl
 replayed-more (b ∷ acts) a m = replayed-more acts a (acted b m)
-
--- one act more of a list that is gone through from its front
-pub replayed_next : (acts : List Act) (i : ℕ) (d : Act) (m x y : Meaning) → i < length acts → x ≡ replayed (take i acts) m → y ≡ acted (get_or acts i d) x → y ≡ replayed (take (i + 1) acts) m
-replayed_next acts i d m x y h p q =
-    q ∙ (ap (acted (get_or acts i d)) p ∙ (sym (replayed-more (take i acts) (get_or acts i d) m) ∙ ap (λ (l : List Act). replayed l m) (sym (take_more acts i d h))))
-
-pub replayed-all : (acts : List Act) (i : ℕ) (m x : Meaning) → length acts ≤ i → x ≡ replayed (take i acts) m → x ≡ replayed acts m
-replayed-all acts i m x h p = p ∙ ap (λ (l : List Act). replayed l m) (take_all i acts h)

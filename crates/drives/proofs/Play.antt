@@ -1,41 +1,53 @@
 -- An accepted pulse of a take-up layer.
-use Rattle.std.proofs.Common.{◌≡◌, ℕ, Bool, true, false, cond, ℤ, pos, ◌+ℤ◌, is_ok, Ok, Err, Result, sym, refl, ap, ◌∙◌, arith}
+use Rattle.std.proofs.Common.{◌≡◌, ℕ, Bool, true, cond, ℤ, pos, ◌+ℤ◌, neg_ℤ, Ok, Err, Result, add-one, arith}
 use Rattle.std.proofs.lemmas.Int.{ints}
 use Rattle.drives.specs.declared.direction.Direction.{Direction}
 use Rattle.drives.specs.declared.direction.Direction.TheVariants.{Forward, Backward}
 use Rattle.drives.specs.declared.fault.Refusal.{Refusal}
 use Rattle.drives.specs.declared.fault.Refusal.TheVariants.{NotReady, Ended}
 use Rattle.drives.specs.Meaning.{Meaning, Sound, at, one, room, answered, pulsed, turned}
-use Rattle.drives.specs.Sending.{sent, told}
-use Rattle.drives.specs.Play.{lead, above, fits, layer, passed, beneath}
-use Rattle.drives.proofs.Sends.{gone, Within, accepts, all-sent, all_told}
+use Rattle.drives.specs.Sending.{sent, told, reached}
+use Rattle.drives.specs.Play.{lead, fits, layer, passed, beneath}
+use Rattle.drives.proofs.Sends.{reach}
 
-pub open_is : (b : ℕ) (f : Direction) (m : Meaning) → fits b f m ≡ true → layer b f m ≡ above b f m
-open_is b f m h = cc
-
--- there is room below for the play and the pulse
-passed-within : (b : ℕ) (d f : Direction) (m : Meaning) → Sound m → fits b f m ≡ true → room d (above b f m) ≡ true → Within d (passed b d f) m
-passed-within b Forward Forward m s h r = grind (arith, ints)
-passed-within b Backward Backward m s h r = grind (arith, ints)
-passed-within b Forward Backward m s h r = grind (arith, ints)
-passed-within b Backward Forward m s h r = grind (arith, ints)
+-- a drive that is ready and has room accepts a pulse
+pub accepted : (d : Direction) (m : Meaning) {ready roomy : Bool} {a : Result (Unit {0}) Refusal} → ready ≡ m.ready → roomy ≡ room d m → a ≡ cond ready (cond roomy (Ok tt) (Err Ended)) (Err NotReady) → a ≡ Ok tt → answered d m ≡ Ok tt
+accepted d m h o a t = cc
 
 -- the flank after it leaves room for the play again
-next_fits : (b : ℕ) (d f : Direction) (m : Meaning) → Sound m → fits b f m ≡ true → room d (above b f m) ≡ true → fits b d (at (gone d (passed b d f) m) m) ≡ true
-next_fits b Forward Forward m s h r = grind (arith, ints)
-next_fits b Backward Backward m s h r = grind (arith, ints)
-next_fits b Forward Backward m s h r = grind (arith, ints)
-next_fits b Backward Forward m s h r = grind (arith, ints)
+room_again : (b : ℕ) (d f : Direction) (m : Meaning) → Sound m → fits b f m ≡ true → answered d (layer b f m) ≡ Ok tt → fits b d (at (reached d (passed b d f) m) m) ≡ true
+room_again b Forward Forward m s h r = grind (arith, ints)
+room_again b Backward Backward m s h r = grind (arith, ints)
+room_again b Forward Backward m s h r = grind (arith, ints)
+room_again b Backward Forward m s h r = grind (arith, ints)
+
+-- the count below after k pulses that all have room
+abbrev gone : Direction → ℕ → ℤ → ℤ
+gone Forward k n = n +ℤ pos k
+gone Backward k n = n +ℤ neg_ℤ (pos k)
+
+-- there is room below for the play and the pulse
+all_gone : (b : ℕ) (d f : Direction) (m : Meaning) → Sound m → fits b f m ≡ true → answered d (layer b f m) ≡ Ok tt → reached d (passed b d f) m ≡ gone d (passed b d f) m.count
+all_gone b Forward Forward m s h r = grind (arith, ints)
+all_gone b Backward Backward m s h r = grind (arith, ints)
+all_gone b Forward Backward m s h r = grind (arith, ints)
+all_gone b Backward Forward m s h r = grind (arith, ints)
+
+all_told : (b : ℕ) (d f : Direction) (m : Meaning) → Sound m → fits b f m ≡ true → answered d (layer b f m) ≡ Ok tt → told d (passed b d f) m ≡ Ok tt
+all_told b Forward Forward m s h r = grind (arith, ints)
+all_told b Backward Backward m s h r = grind (arith, ints)
+all_told b Forward Backward m s h r = rw (add-one, reach Forward b m s) (grind (arith, ints))
+all_told b Backward Forward m s h r = rw (add-one, reach Backward b m s) (grind (arith, ints))
 
 -- and the layer has gone by one
-next_count : (b : ℕ) (d f : Direction) (m : Meaning) → gone d (passed b d f) m +ℤ pos (lead b d) ≡ (m.count +ℤ pos (lead b f)) +ℤ one d
-next_count b Forward Forward m = omega (arith, ints)
-next_count b Backward Backward m = omega (arith, ints)
-next_count b Forward Backward m = omega (arith, ints)
-next_count b Backward Forward m = omega (arith, ints)
+gone_by_one : (b : ℕ) (d f : Direction) (n : ℤ) → gone d (passed b d f) n +ℤ pos (lead b d) ≡ (n +ℤ pos (lead b f)) +ℤ one d
+gone_by_one b Forward Forward n = omega (arith, ints)
+gone_by_one b Backward Backward n = omega (arith, ints)
+gone_by_one b Forward Backward n = omega (arith, ints)
+gone_by_one b Backward Forward n = omega (arith, ints)
 
-goes : (d : Direction) (m : Meaning) → m.ready ≡ true → room d m ≡ true → pulsed d m ≡ at (m.count +ℤ one d) m
-goes d m h r = cc
+layer_goes : (b : ℕ) (d f : Direction) (m : Meaning) → Sound m → fits b f m ≡ true → answered d (layer b f m) ≡ Ok tt → layer b d (at (reached d (passed b d f) m) m) ≡ pulsed d (layer b f m)
+layer_goes b d f m s h r = grind (arith, room_again b d f m s h r, all_gone b d f m s h r, gone_by_one b d f m.count)
 
 -- what the layer and the drive below owe, with x the drive below after the pulses that were passed on
 pub record Owed (b : ℕ) (d f : Direction) (m : Meaning) (r : Result (Unit {0}) Refusal) (x : Meaning) : Type 0 where
@@ -45,31 +57,9 @@ pub record Owed (b : ℕ) (d f : Direction) (m : Meaning) (r : Result (Unit {0})
   pub below : x ≡ beneath b d f m
   pub flank : d ≡ turned r d f
 
--- an accepted pulse
-accepted : (r o : Bool) → ◌≡◌ {A = Result (Unit {0}) Refusal} (cond r (cond o (Ok tt) (Err Ended)) (Err NotReady)) (Ok tt) → (r ≡ true) × (o ≡ true)
-accepted true true p = (refl, refl)
-accepted true false p = cc
-accepted false o p = cc
-
-pub owed : (b k : ℕ) (d f : Direction) (m x : Meaning) (r : Result (Unit {0}) Refusal) {ready roomy : Bool} {a : Result (Unit {0}) Refusal} → Sound m → fits b f m ≡ true → ready ≡ (layer b f m).ready → roomy ≡ room d (layer b f m) → a ≡ cond ready (cond roomy (Ok tt) (Err Ended)) (Err NotReady) → a ≡ Ok tt → k ≡ passed b d f → r ≡ told d k m → x ≡ sent d k m → Owed b d f m r x
-owed b k d f m x r s ft h o a t e p q =
-    let ok : answered d (layer b f m) ≡ Ok tt = cc in
-    let is : layer b f m ≡ above b f m = open_is b f m ft in
-    let both = accepted (layer b f m).ready (room d (layer b f m)) ok in
-    let is_ready : m.ready ≡ true = ap (λ (n : Meaning). n.ready) (sym is) ∙ both.0 in
-    let has_room : room d (above b f m) ≡ true = ap (room d) (sym is) ∙ both.1 in
-    let within : Within d (passed b d f) m = passed-within b d f m s ft has_room in
-    let all_ok : r ≡ Ok tt = p ∙ (ap (λ n. told d n m) e ∙ all_told d (passed b d f) m s is_ready within) in
-    let all_gone : x ≡ at (gone d (passed b d f) m) m = q ∙ (ap (λ n. sent d n m) e ∙ all-sent d (passed b d f) m s is_ready within) in
-    let next : fits b d x ≡ true = ap (fits b d) all_gone ∙ next_fits b d f m s ft has_room in
-    record {
-      room_for_play = next;
-      value = cc;
-      after =
-          open_is b d x next
-          ∙ (ap (above b d) all_gone
-          ∙ (ap (λ (n : ℤ). at n (above b f m)) (next_count b d f m)
-          ∙ (sym (goes d (above b f m) is_ready has_room) ∙ ap (pulsed d) (sym is))));
-      below = cc;
-      flank = cc;
-    }
+pub owed : (b k : ℕ) (d f : Direction) (m x : Meaning) (r : Result (Unit {0}) Refusal) → Sound m → fits b f m ≡ true → answered d (layer b f m) ≡ Ok tt → k ≡ passed b d f → r ≡ told d k m → x ≡ sent d k m → x ≡ at (reached d k m) m → Owed b d f m r x
+owed b k d f m x r s h ok e value after reach =
+    let told : told d (passed b d f) m ≡ Ok tt = all_told b d f m s h ok in
+    let all_ok : r ≡ Ok tt = cc in
+    let to : x ≡ at (reached d (passed b d f) m) m = cc in
+    record { room_for_play = rw to (room_again b d f m s h ok); value = cc; after = rw to (layer_goes b d f m s h ok); below = cc; flank = cc }
