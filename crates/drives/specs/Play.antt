@@ -23,8 +23,8 @@ fits b Backward m = int_le (m.count +ℤ pos b) m.greatest
 abbrev pub closed : Meaning → Meaning
 closed m = record { count = m.count; least = m.count; greatest = m.count; ready = m.ready }
 
--- what a layer means. A layer that was made leaves room, and no call takes it away, so that
--- `closed` never comes about; it is there for every value of the type to have a meaning.
+-- what a layer means. Every value of the type `TakeUp` leaves room for its play, so that its
+-- meaning is `above`; `closed` stands for numbers that no layer has.
 abbrev pub layer : ℕ → Direction → Meaning → Meaning
 layer b f m = cond (fits b f m) (above b f m) (closed m)
 
