@@ -8,6 +8,7 @@ use Rattle.drives.specs.declared.take_up.NotLaid.{NotLaid}
 use Rattle.drives.specs.Meaning.{Meaning}
 use Rattle.drives.specs.Play.{above, fits, layer}
 
+-- what a layer means, by what the drives of its kind below mean
 abbrev pub layered : {D : Type 0} {g : Ghosts D} → (D → Meaning) → TakeUp D g → Meaning
 layered meaning t = layer t.play t.flank (meaning t.below)
 
