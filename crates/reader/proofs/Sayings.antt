@@ -6,12 +6,17 @@ use Rattle.std.specs.Option.{option_map}
 use Rattle.units.specs.declared.Measure.{Measure}
 use Rattle.reader.specs.declared.part.Letter.{Letter}
 use Rattle.reader.specs.declared.part.Letter.TheVariants.{N, G, X, F, M}
+use Rattle.reader.specs.declared.block.Motion.TheVariants.{Rapid, Feed}
+use Rattle.reader.specs.declared.block.OffsetChoice.TheVariants.{Without, First, Second, Third, Fourth}
+use Rattle.reader.specs.declared.block.Way.TheVariants.{Absolute, Relative}
+use Rattle.reader.specs.declared.block.Preparatory.{Preparatory}
+use Rattle.reader.specs.declared.block.Preparatory.TheVariants.{OfMotion, OfOffset, OfWay}
 use Rattle.reader.specs.declared.block.Value.{Value}
 use Rattle.reader.specs.declared.block.Value.TheVariants as value
-use Rattle.reader.specs.Words.{onto, within, upto, whole, after, fraction, signed, limited, scaled, units_of, preparatory, value_of}
+use Rattle.reader.specs.Words.{onto, within, upto, whole, after, fraction, signed, limited, scaled, units_of, preparatory, code_of, value_of}
 use Rattle.units.specs.Measures.{places}
 use Rattle.reader.specs.Reads.{DecimalOf, WellFormed, Says, number, prepared, target, rate, auxiliary}
-use Rattle.reader.specs.Answers.{ValuesSaid}
+use Rattle.reader.specs.Answers.{ValuesSaid, CodesRead}
 use Rattle.reader.proofs.Forms.{decimal_to}
 use Rattle.reader.proofs.Blocks.{some_from}
 
@@ -75,3 +80,29 @@ says_to m _ _ _ (auxiliary n q) = ap (option_map value.Auxiliary) (cond-true _ _
 
 pub values_said : (m : Measure) → ValuesSaid m
 values_said m l n v f = (says_from m l n v f, says_to m l n v)
+
+-- the numbers of G words
+code_read : (n : ℕ) (g : Preparatory) → preparatory n ≡ Some g → n ≡ code_of g
+code_read n (OfMotion Rapid) h = grind (arith, nat_tests)
+code_read n (OfMotion Feed) h = grind (arith, nat_tests)
+code_read n (OfOffset Without) h = grind (arith, nat_tests)
+code_read n (OfOffset First) h = grind (arith, nat_tests)
+code_read n (OfOffset Second) h = grind (arith, nat_tests)
+code_read n (OfOffset Third) h = grind (arith, nat_tests)
+code_read n (OfOffset Fourth) h = grind (arith, nat_tests)
+code_read n (OfWay Absolute) h = grind (arith, nat_tests)
+code_read n (OfWay Relative) h = grind (arith, nat_tests)
+
+read-code : (g : Preparatory) → preparatory (code_of g) ≡ Some g
+read-code (OfMotion Rapid) = refl
+read-code (OfMotion Feed) = refl
+read-code (OfOffset Without) = refl
+read-code (OfOffset First) = refl
+read-code (OfOffset Second) = refl
+read-code (OfOffset Third) = refl
+read-code (OfOffset Fourth) = refl
+read-code (OfWay Absolute) = refl
+read-code (OfWay Relative) = refl
+
+pub codes_read : CodesRead
+codes_read n g = (code_read n g, λ e. ap preparatory e ∙ read-code g)

@@ -1,4 +1,4 @@
-use Rattle.std.proofs.Common.{Some, sym, ap, ◌∙◌}
+use Rattle.std.proofs.Common.{sym, ◌∙◌}
 use Rattle.std.proofs.lemmas.Result.{err_from_is_err_and}
 use Rattle.reader.specs.Questions.{outside}
 use Rattle.reader.proofs.Passes.{pass_here, pass_on, pass_all, block_next, block_all}
@@ -6,7 +6,7 @@ use Rattle.reader.proofs.values.block_of.Goals as goal
 
 pub returns-in_err-block : goal.returns-in_err-block
 returns-in_err-block c = let p = err_from_is_err_and c.from_residual.result c.from_residual.ensures.1 in rw (p.1, p.2)
-    (pass_here (λ _ p. outside c.args.measure p) c.args.parts.now c.loop-part.part-index _ c.loop-part-test.true c.in_err-block.ensures.0 c.loop-part.invariant.0 ∙ ap Some (sym c.in_err-block.ensures.1))
+    (_, pass_here (λ _ p. outside c.args.measure p) c.args.parts.now c.loop-part.part-index _ c.loop-part-test.true c.in_err-block.ensures.0 c.loop-part.invariant.0, c.in_err-block.ensures.1)
 
 pub loop-part-preserved : goal.loop-part-preserved
 loop-part-preserved c = (
