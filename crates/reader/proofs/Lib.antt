@@ -1,4 +1,3 @@
-pub mod Fronts
 pub mod Numbers
 pub mod Cuts
 pub mod Tables

@@ -7,16 +7,6 @@ use Rattle.std.proofs.lemmas.Bool.Decides.{nat_tests}
 use Rattle.units.specs.declared.Measure.{Measure}
 use Rattle.reader.specs.Words.{digit, negative, body, whole, fraction, after, onto, upto, limited, scaled, units_of}
 use Rattle.units.specs.Measures.{places}
-use Rattle.reader.proofs.Fronts.{rest, at_first}
-
-pub minus : (xs : List ℕ) → 0 < length xs → get_or xs 0 0 ≡ 45 → (true ≡ negative xs) × (rest xs ≡ body xs)
-minus xs h e = (sym (at_first negative xs 0 45 h e), sym (at_first body xs 0 45 h e))
-
-pub plus : (xs : List ℕ) → 0 < length xs → get_or xs 0 0 ≡ 43 → (false ≡ negative xs) × (rest xs ≡ body xs)
-plus xs h e = (sym (at_first negative xs 0 43 h e), sym (at_first body xs 0 43 h e))
-
-pub point : (xs : List ℕ) → 0 < length xs → get_or xs 0 0 ≡ 46 → Some (rest xs) ≡ fraction xs
-point xs h e = sym (at_first fraction xs 0 46 h e)
 
 pub onto-more : (n : ℕ) (xs : List ℕ) (i : ℕ) → i < length xs → onto n (drop i xs) ≡ onto (n * 10 + (get_or xs i 0 - 48)) (drop (i + 1) xs)
 onto-more n xs i h = at_drop_more (onto n) xs i 0 h

@@ -63,7 +63,7 @@ cut m zero at (b ∷ bs) = cond (b == 32) (cut m zero (suc at) bs) (onward (open
 cut m (suc k) at (b ∷ bs) = cut m k (suc at) bs
 
 abbrev pub shown : Part → Piece
-shown (Word l n at) = word l n.now at
+shown (Word w at) = word w.letter w.number.now at
 shown (Remark t at) = remark t.now at
 
 abbrev pub left : Measure → Rest → Cut

@@ -2,6 +2,7 @@
 use Rattle.std.specs.Prelude.{◌≡◌, ℕ, Bool, true, false, cond, not, ◌&&◌, ◌||◌, List, [], ◌∷◌, ◌++◌, length, is_some, Some, None, Ok, Err, Option, Result, ◌==◌, nat_le, nat_lt}
 use Rattle.std.specs.List.{list_any}
 use Rattle.units.specs.declared.Measure.{Measure}
+use Rattle.reader.specs.declared.part.Letter.{Letter}
 use Rattle.reader.specs.declared.block.Preparatory.TheVariants.{OfMotion, OfOffset, OfWay}
 use Rattle.reader.specs.declared.block.Value.{Value}
 use Rattle.reader.specs.declared.block.Value.TheVariants as value
@@ -21,8 +22,11 @@ first_bad bad before [] = None
 first_bad bad before (p ∷ ps) = cond (bad before p) (Some (start_of p)) (first_bad bad (before ++ p ∷ []) ps)
 
 -- Order: a word may not stand after one with a later letter, with the same letter, or, for G, of the same group.
+abbrev pub words_clash : Letter → List ℕ → Letter → List ℕ → Bool
+words_clash l n k o = nat_lt (rank k) (rank l) || (rank l == rank k && (not (rank l == 1) || same_group (preparatory (onto 0 n)) (preparatory (onto 0 o))))
+
 abbrev pub clash : Piece → Piece → Bool
-clash (word l n at) (word k o to) = nat_lt (rank k) (rank l) || (rank l == rank k && (not (rank l == 1) || same_group (preparatory (onto 0 n)) (preparatory (onto 0 o))))
+clash (word l n at) (word k o to) = words_clash l n k o
 clash (word l n at) (remark t to) = false
 clash (remark s at) (word k o to) = false
 clash (remark s at) (remark t to) = false
@@ -40,13 +44,13 @@ empty = record { number = None; motion = None; offset = None; way = None; target
 
 -- a block with one value more
 abbrev pub holding : Value → Block → Block
-holding (value.Number n) b = record { number = Some n; motion = b.motion; offset = b.offset; way = b.way; target = b.target; feed = b.feed; auxiliary = b.auxiliary }
-holding (value.Prepared (OfMotion v)) b = record { number = b.number; motion = Some v; offset = b.offset; way = b.way; target = b.target; feed = b.feed; auxiliary = b.auxiliary }
-holding (value.Prepared (OfOffset v)) b = record { number = b.number; motion = b.motion; offset = Some v; way = b.way; target = b.target; feed = b.feed; auxiliary = b.auxiliary }
-holding (value.Prepared (OfWay v)) b = record { number = b.number; motion = b.motion; offset = b.offset; way = Some v; target = b.target; feed = b.feed; auxiliary = b.auxiliary }
-holding (value.Target x) b = record { number = b.number; motion = b.motion; offset = b.offset; way = b.way; target = Some x; feed = b.feed; auxiliary = b.auxiliary }
-holding (value.Rate f) b = record { number = b.number; motion = b.motion; offset = b.offset; way = b.way; target = b.target; feed = Some f; auxiliary = b.auxiliary }
-holding (value.Auxiliary n) b = record { number = b.number; motion = b.motion; offset = b.offset; way = b.way; target = b.target; feed = b.feed; auxiliary = Some n }
+holding (value.Number n) b = record b { number = Some n }
+holding (value.Prepared (OfMotion v)) b = record b { motion = Some v }
+holding (value.Prepared (OfOffset v)) b = record b { offset = Some v }
+holding (value.Prepared (OfWay v)) b = record b { way = Some v }
+holding (value.Target x) b = record b { target = Some x }
+holding (value.Rate f) b = record b { feed = Some f }
+holding (value.Auxiliary n) b = record b { auxiliary = Some n }
 
 -- the block so far, with what a word says; none before the first word
 abbrev pub more : Option Value → Option Block → Option Block

@@ -17,12 +17,11 @@ pub use block::{Block, Motion, OffsetChoice, Way, ends_program};
 pub use fault::LineFault;
 use order::in_order;
 use part::parts_of;
+use rest::MOST_BYTES;
 use units::Measure;
 use values::block_of;
 
-// The most bytes of a line, and the most blocks of a program.
-const MOST_BYTES: usize = 80;
-
+// The most blocks of a program.
 const MOST_BLOCKS: usize = 64;
 
 /// What a line of bytes says, for a program that has `blocks` blocks already:

@@ -52,9 +52,9 @@ fn sign_of<'a>(number: &'a [u8]) -> (bool, &'a [u8])
     ensures sign { result.0 ≡ negative number.now }
     ensures rest { result.1.now ≡ body number.now }
 {
-    match number {
-        [b'-', tail @ ..] => (true, tail),
-        [b'+', tail @ ..] => (false, tail),
+    match number.split_first() {
+        Some((b'-', tail)) => (true, tail),
+        Some((b'+', tail)) => (false, tail),
         _ => (false, number),
     }
 }
@@ -63,10 +63,10 @@ fn sign_of<'a>(number: &'a [u8]) -> (bool, &'a [u8])
 fn decimals_of<'a>(rest: &'a [u8]) -> Option<&'a [u8]>
     ensures { option_map (λ x. x.now) result ≡ fraction rest.now }
 {
-    match rest {
-        [] => Some(rest),
-        [b'.', tail @ ..] => Some(tail),
-        _ => None,
+    match rest.split_first() {
+        None => Some(rest),
+        Some((b'.', tail)) => Some(tail),
+        Some(_) => None,
     }
 }
 

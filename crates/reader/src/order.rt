@@ -1,12 +1,12 @@
 ghost use Rattle.std.specs.Prelude.{◌≡◌, map};
 ghost use Rattle.reader.specs.Words.{onto, preparatory, same_group};
 ghost use Rattle.reader.specs.Lines.{shown};
-ghost use Rattle.reader.specs.Questions.{start_of, clash, misplaced, Ordered};
+ghost use Rattle.reader.specs.Questions.{start_of, words_clash, clash, misplaced, Ordered};
 
 use crate::block::Preparatory;
 use crate::fault::LineFault;
 use crate::number::value_upto;
-use crate::part::{Letter, Part};
+use crate::part::{Letter, Part, Word};
 
 impl Part<'_> {
     // The byte at which it starts.
@@ -19,11 +19,23 @@ impl Part<'_> {
     }
 }
 
-// What a G word says, if it is known.
-pub(crate) fn preparatory_of(number: &[u8]) -> Option<Preparatory>
-    ensures { result ≡ preparatory (onto 0 number.now) }
-{
-    Preparatory::try_from(value_upto(0, number, 99)? as u8).ok()
+impl Word<'_> {
+    // What it says as a G word, if that is known.
+    pub(crate) fn preparatory(self) -> Option<Preparatory>
+        ensures { result ≡ preparatory (onto 0 self.entry.number.now) }
+    {
+        Preparatory::try_from(value_upto(0, self.number, 99)? as u8).ok()
+    }
+
+    // Whether it may not stand after `earlier`.
+    fn clashes_with(self, earlier: Word) -> bool
+        ensures { result ≡ words_clash earlier.entry.letter earlier.entry.number.now self.entry.letter self.entry.number.now }
+    {
+        self.letter < earlier.letter
+            || (self.letter == earlier.letter
+                && (self.letter != Letter::G
+                    || same_group(earlier.preparatory(), self.preparatory())))
+    }
 }
 
 // Whether two G words are of one group; one that is not known is in none.
@@ -41,20 +53,9 @@ fn clashes(earlier: Part, later: Part) -> bool
     ensures { result ≡ clash (shown earlier.entry) (shown later.entry) }
 {
     match (earlier, later) {
-        (
-            Part::Word {
-                letter: first,
-                number: m,
-                ..
-            },
-            Part::Word {
-                letter: second,
-                number: n,
-                ..
-            },
-        ) => second < first
-            || (second == first
-                && (first != Letter::G || same_group(preparatory_of(m), preparatory_of(n)))),
+        (Part::Word { word: first, .. }, Part::Word { word: second, .. }) => {
+            second.clashes_with(first)
+        }
         _ => false,
     }
 }

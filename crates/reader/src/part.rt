@@ -7,7 +7,7 @@ ghost use Rattle.reader.specs.Lines.{blank, closed_at, Begins, BeginsAny, Next, 
 use crate::block::Unknown;
 use crate::fault::LineFault;
 use crate::number::{all_digits, take_apart};
-use crate::rest::Rest;
+use crate::rest::{MOST_BYTES, Rest};
 use arrayvec::ArrayVec;
 use units::Measure;
 
@@ -38,18 +38,18 @@ impl TryFrom<u8> for Letter {
     }
 }
 
+// A letter, and what stands after it.
+#[derive(Clone, Copy)]
+pub(crate) struct Word<'a> {
+    pub(crate) letter: Letter,
+    pub(crate) number: &'a [u8],
+}
+
 // A word or a remark of a line, with the byte at which it starts.
 #[derive(Clone, Copy)]
 pub(crate) enum Part<'a> {
-    Word {
-        letter: Letter,
-        number: &'a [u8],
-        at: usize,
-    },
-    Remark {
-        text: &'a [u8],
-        at: usize,
-    },
+    Word { word: Word<'a>, at: usize },
+    Remark { text: &'a [u8], at: usize },
 }
 
 // What stands in the places of a table that no part of a line has filled.
@@ -59,13 +59,15 @@ impl Default for Part<'_> {
     }
 }
 
-fn well_formed(letter: Letter, number: &[u8], measure: Measure) -> bool
-    ensures { result ≡ formed measure letter number.now }
-{
-    match letter {
-        Letter::N | Letter::F => !number.is_empty() && all_digits(number),
-        Letter::G | Letter::M => number.len() == 2 && all_digits(number),
-        Letter::X => take_apart(number).is_some_and(|decimal| decimal.fits(measure)),
+impl Word<'_> {
+    fn is_well_formed(self, measure: Measure) -> bool
+        ensures { result ≡ formed measure self.entry.letter self.entry.number.now }
+    {
+        match self.letter {
+            Letter::N | Letter::F => !self.number.is_empty() && all_digits(self.number),
+            Letter::G | Letter::M => self.number.len() == 2 && all_digits(self.number),
+            Letter::X => take_apart(self.number).is_some_and(|decimal| decimal.fits(measure)),
+        }
     }
 }
 
@@ -82,7 +84,7 @@ fn number_len(bytes: &[u8]) -> usize
 {
     bytes
         .iter()
-        .take_while(|b| matches!(**b, b'0'..=b'9' | b'+' | b'-' | b'.'))
+        .take_while(|b| b.is_ascii_digit() || matches!(**b, b'+' | b'-' | b'.'))
         .count()
 }
 
@@ -120,10 +122,11 @@ fn word_at<'a>(
         return Err(LineFault::Form { at });
     };
     let (number, after) = tail.split_at(number_len(tail.bytes));
-    if !well_formed(letter, number, measure) {
+    let word = Word { letter, number };
+    if !word.is_well_formed(measure) {
         return Err(LineFault::Form { at });
     }
-    Ok((Part::Word { letter, number, at }, after))
+    Ok((Part::Word { word, at }, after))
 }
 
 // The first part of what is left of a line; none where only blanks are left.
@@ -145,7 +148,7 @@ fn next_part<'a>(
 pub(crate) fn parts_of<'a>(
     line: &'a [u8],
     measure: Measure,
-) -> Result<ArrayVec<Part<'a>, 80>, LineFault>
+) -> Result<ArrayVec<Part<'a>, MOST_BYTES>, LineFault>
     requires { length line.now ≤ 80 }
     ensures { Filled (cut measure 0 0 line.now) result }
 {

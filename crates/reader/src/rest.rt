@@ -1,5 +1,8 @@
 ghost use Rattle.std.specs.Prelude.{◌≡◌, ◌+◌, ◌≤◌, ◌∷◌, length, take, drop, MatchOption, []};
 
+// The most bytes of a line.
+pub(crate) const MOST_BYTES: usize = 80;
+
 // What is left of a line of at most 80 bytes, and the byte at which it starts.
 #[derive(Clone, Copy)]
 pub(crate) struct Rest<'a> {

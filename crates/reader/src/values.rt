@@ -6,8 +6,7 @@ ghost use Rattle.reader.specs.Questions.{Added, Ranged};
 use crate::block::{Block, Value};
 use crate::fault::LineFault;
 use crate::number::{units, value_upto};
-use crate::order::preparatory_of;
-use crate::part::{Letter, Part};
+use crate::part::{Letter, Part, Word};
 use units::Measure;
 
 // The value of digits, from 1 to `most`.
@@ -18,16 +17,18 @@ fn counted(digits: &[u8], most: u16) -> Option<u16>
     if n == 0 { None } else { Some(n as u16) }
 }
 
-// What a word says, if its number is in range.
-fn value_of(letter: Letter, number: &[u8], measure: Measure) -> Option<Value>
-    ensures { result ≡ value_of measure letter number.now }
-{
-    match letter {
-        Letter::N => counted(number, 9_999).map(Value::Number),
-        Letter::G => preparatory_of(number).map(Value::Prepared),
-        Letter::X => units(number, measure).map(Value::Target),
-        Letter::F => counted(number, 65_000).map(Value::Rate),
-        Letter::M => value_upto(0, number, 99).map(|m| Value::Auxiliary(m as u8)),
+impl Word<'_> {
+    // What it says, if its number is in range.
+    fn value(self, measure: Measure) -> Option<Value>
+        ensures { result ≡ value_of measure self.entry.letter self.entry.number.now }
+    {
+        match self.letter {
+            Letter::N => counted(self.number, 9_999).map(Value::Number),
+            Letter::G => self.preparatory().map(Value::Prepared),
+            Letter::X => units(self.number, measure).map(Value::Target),
+            Letter::F => counted(self.number, 65_000).map(Value::Rate),
+            Letter::M => value_upto(0, self.number, 99).map(|m| Value::Auxiliary(m as u8)),
+        }
     }
 }
 
@@ -35,10 +36,10 @@ fn value_of(letter: Letter, number: &[u8], measure: Measure) -> Option<Value>
 fn add(block: Option<Block>, part: Part, measure: Measure) -> Result<Option<Block>, LineFault>
     ensures { Added measure block (shown part.entry) result }
 {
-    let Part::Word { letter, number, at } = part else {
+    let Part::Word { word, at } = part else {
         return Ok(block);
     };
-    let value = value_of(letter, number, measure).ok_or(LineFault::Range { at })?;
+    let value = word.value(measure).ok_or(LineFault::Range { at })?;
     Ok(Some(block.unwrap_or_default().with(value)))
 }
 

@@ -9,4 +9,4 @@ split_at-requires c = search (rules, prefix_len-le-length)
 pub returns : goal.returns
 returns c =
     cut_word _ _ _ _ _ _ _ _ _ c.requires.no_blank c.requires.no_remark (sym c.in-Ok.ensures) c.number_len.ensures c.split_at.ensures.front c.split_at.ensures.back
-    (omega (arith, c.requires.place, c.split_at.ensures.place)) (sym c.if-not-well_formed.ensures)
+    (omega (arith, c.requires.place, c.split_at.ensures.place)) (sym c.if-not-is_well_formed.ensures)
