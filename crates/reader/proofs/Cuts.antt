@@ -1,9 +1,8 @@
 -- How a line is cut at its first byte.
-use Rattle.std.proofs.Common.{◌≡◌, ℕ, zero, suc, ◌+◌, ◌-◌, ◌<◌, ◌≤◌, Bool, true, false, cond, eqb, List, [], ◌∷◌, length, take, drop, Some, None, Ok, Err, Option, Result, sym, refl, ap, ◌∙◌, subst, arith}
+use Rattle.std.proofs.Common.{◌≡◌, ℕ, zero, suc, ◌+◌, ◌<◌, ◌≤◌, Bool, true, false, cond, eqb, List, [], ◌∷◌, length, take, drop, Some, Ok, Err, Option, Result, sym, refl, ap, ◌∙◌, subst, arith}
 use Rattle.std.specs.List.{prefix_len}
-use Rattle.std.proofs.lemmas.List.{take_rest, length-drop, drop-drop, length-take-le, nil_from_length}
-use Rattle.std.proofs.lemmas.List.Sums.{prefix_len-le-length}
-use Rattle.std.proofs.lemmas.Bool.{cond-true, cond-false, ne_eqb, eq-eqb, both_ways, lt-ltb}
+use Rattle.std.proofs.lemmas.List.{length-drop, drop-drop}
+use Rattle.std.proofs.lemmas.Bool.{cond-true, cond-false, ne_eqb, lt-ltb}
 use Rattle.std.proofs.lemmas.Bool.Decides.{nat_tests}
 use Rattle.units.specs.declared.Measure.{Measure}
 use Rattle.reader.specs.declared.fault.LineFault.{LineFault}
@@ -11,9 +10,7 @@ use Rattle.reader.specs.declared.part.Letter.{Letter}
 use Rattle.reader.specs.declared.part.Part.{Part}
 use Rattle.reader.specs.declared.rest.Rest.{Rest}
 use Rattle.reader.specs.Words.{numeric, letter_of, formed}
-use Rattle.reader.specs.Lines.{Piece, word, remark, end, part, inside, closed_at, remark_of, remark_in, word_in, opened, taken, onward, blank, cut, left, Begins}
-use Rattle.reader.specs.Reads.{Stops}
-use Rattle.reader.proofs.Runs.{stops_leading}
+use Rattle.reader.specs.Lines.{Piece, word, remark, part, inside, closed_at, remark_of, remark_in, word_in, opened, taken, onward, blank, cut, left, Begins}
 
 pub cut_skip : (m : Measure) (k at : ℕ) (xs : List ℕ) → cut m k at xs ≡ cut m 0 (at + k) (drop k xs)
 cut_skip m zero at [] = refl
@@ -76,20 +73,9 @@ pub cut_blanks : (m : Measure) (at : ℕ) (xs : List ℕ) → cut m 0 at xs ≡ 
 cut_blanks m at [] = refl
 cut_blanks m at (b ∷ bs) = blanks_by m at b bs (blank b) refl (cut_blanks m (suc at) bs)
 
-abbrev pub IsStart : Rest → ℕ → Rest → Type 0
-IsStart r k s = (k ≡ prefix_len blank r.bytes.now) × (s.bytes.now ≡ drop k r.bytes.now) × (s.at ≡ r.at + k)
+pub left_start : (m : Measure) (r s : Rest) (k : ℕ) → k ≡ prefix_len blank r.bytes.now → s.bytes.now ≡ drop k r.bytes.now → s.at ≡ r.at + k → left m r ≡ left m s
+left_start m r s k n b a = cut_blanks m r.at r.bytes.now ∙ cc
 
-pub left_start : (m : Measure) (r s : Rest) (k : ℕ) → IsStart r k s → left m r ≡ left m s
-left_start m r s k h =
-    cut_blanks m r.at r.bytes.now ∙ ap (λ j. cut m 0 (r.at + j) (drop j r.bytes.now)) (sym h.0)
-    ∙ ap (λ a. cut m 0 a (drop k r.bytes.now)) (sym h.2) ∙ ap (cut m 0 s.at) (sym h.1)
-
-pub no_blank : (r s : Rest) (k b : ℕ) (ys : List ℕ) → IsStart r k s → s.bytes.now ≡ b ∷ ys → b ≡ 32 → ⊥
-no_blank r s k b ys h e z =
-    let stop : Stops blank (b ∷ ys) = subst (Stops blank) (ap (λ j. drop j r.bytes.now) (sym h.0) ∙ sym h.1 ∙ e) (stops_leading blank r.bytes.now) in
-    both_ways (eqb b 32) stop (eq-eqb b 32 z)
-
-pub begins_start : (m : Measure) (r s : Rest) (k b : ℕ) (ys : List ℕ) (o : Result (Part × Rest) LineFault) → IsStart r k s → s.bytes.now ≡ b ∷ ys → Begins m s.at (b ∷ ys) o → Begins m r.at r.bytes.now o
-begins_start m r s k b ys (Err f) h e i = (i.0, left_start m r s k h ∙ ap (cut m 0 s.at) e ∙ i.1, i.2)
-begins_start m r s k b ys (Ok n) h e i =
-    (left_start m r s k h ∙ ap (cut m 0 s.at) e ∙ i.0, omega (arith, i.1, ap length (sym e ∙ h.1) ∙ length-drop k r.bytes.now))
+pub begins_start : (m : Measure) (r s : Rest) (b : ℕ) (ys : List ℕ) (o : Result (Part × Rest) LineFault) → left m r ≡ left m s → length s.bytes.now ≤ length r.bytes.now → s.bytes.now ≡ b ∷ ys → Begins m s.at (b ∷ ys) o → Begins m r.at r.bytes.now o
+begins_start m r s b ys (Err f) same le e i = (i.0, same ∙ ap (cut m 0 s.at) e ∙ i.1, i.2)
+begins_start m r s b ys (Ok n) same le e i = (same ∙ ap (cut m 0 s.at) e ∙ i.0, omega (arith, i.1, le, ap length e))

@@ -23,9 +23,6 @@ first_bad-more bad ps i d h e =
 pub first_bad_here : (bad : List Piece → Piece → Bool) (ps : List Piece) (i : ℕ) (d : Piece) → i < length ps → bad (take i ps) (get_or ps i d) ≡ true → first_bad bad (take i ps) (drop i ps) ≡ Some (start_of (get_or ps i d))
 first_bad_here bad ps i d h e = ap (first_bad bad (take i ps)) (drop_more ps i d h) ∙ cond-true _ _ _ e
 
-pub first_bad-all : (bad : List Piece → Piece → Bool) (before ps : List Piece) (i : ℕ) → length ps ≤ i → first_bad bad before (drop i ps) ≡ None
-first_bad-all bad before ps i h = ap (first_bad bad before) (drop_all i ps h)
-
 abbrev pub SameFirst : (List Piece → Piece → Bool) → List Piece → ℕ → Type 0
 SameFirst bad ps i = first_bad bad (take i ps) (drop i ps) ≡ first_bad bad [] ps
 
@@ -41,16 +38,10 @@ pass_here bad xs i d h e inv =
     let is : get_or (map shown xs) i (shown d) ≡ shown (get_or xs i d) = get_or-map shown xs i d (shown d) h in
     sym inv ∙ first_bad_here bad (map shown xs) i (shown d) lt (ap (λ b. bad b (get_or (map shown xs) i (shown d))) (take-map shown i xs) ∙ ap (bad (map shown (take i xs))) is ∙ e) ∙ ap (λ p. Some (start_of p)) is
 
-pub pass_all : (bad : List Piece → Piece → Bool) (xs : List Part) (i : ℕ) → length xs ≤ i → SameFirst bad (map shown xs) i → first_bad bad [] (map shown xs) ≡ None
-pass_all bad xs i h inv = sym inv ∙ first_bad-all bad (take i (map shown xs)) (map shown xs) i (subst (λ n. n ≤ i) (sym (length-map xs shown)) h)
-
 pub block_on : (m : Measure) (o : Option Block) (xs : List Part) (i : ℕ) (d : Part) → i < length xs → block_from m o (drop i (map shown xs)) ≡ block_from m (more (said m (shown (get_or xs i d))) o) (drop (i + 1) (map shown xs))
 block_on m o xs i d h =
     let lt : i < length (map shown xs) = subst (λ n. i < n) (sym (length-map xs shown)) h in
     at_drop_more (block_from m o) (map shown xs) i (shown d) lt ∙ ap (λ p. block_from m (more (said m p) o) (drop (i + 1) (map shown xs))) (get_or-map shown xs i d (shown d) h)
-
-pub block_all : (m : Measure) (o : Option Block) (xs : List Part) (i : ℕ) → length xs ≤ i → block_from m o (drop i (map shown xs)) ≡ o
-block_all m o xs i h = at_drop_all (block_from m o) (map shown xs) i (subst (λ n. n ≤ i) (sym (length-map xs shown)) h)
 
 -- the front of a slice, as `&s[0..i]` reads
 pub front : (xs : List Part) (i : ℕ) (p : Piece) (b : Bool) → b ≡ misplaced (map shown (take (i - 0) xs)) p → misplaced (map shown (take i xs)) p ≡ b

@@ -80,29 +80,3 @@ says_to m _ _ _ (auxiliary n q) = ap (option_map value.Auxiliary) (cond-true _ _
 
 pub values_said : (m : Measure) → ValuesSaid m
 values_said m l n v f = (says_from m l n v f, says_to m l n v)
-
--- the numbers of G words
-code_read : (n : ℕ) (g : Preparatory) → preparatory n ≡ Some g → n ≡ code_of g
-code_read n (OfMotion Rapid) h = grind (arith, nat_tests)
-code_read n (OfMotion Feed) h = grind (arith, nat_tests)
-code_read n (OfOffset Without) h = grind (arith, nat_tests)
-code_read n (OfOffset First) h = grind (arith, nat_tests)
-code_read n (OfOffset Second) h = grind (arith, nat_tests)
-code_read n (OfOffset Third) h = grind (arith, nat_tests)
-code_read n (OfOffset Fourth) h = grind (arith, nat_tests)
-code_read n (OfWay Absolute) h = grind (arith, nat_tests)
-code_read n (OfWay Relative) h = grind (arith, nat_tests)
-
-read-code : (g : Preparatory) → preparatory (code_of g) ≡ Some g
-read-code (OfMotion Rapid) = refl
-read-code (OfMotion Feed) = refl
-read-code (OfOffset Without) = refl
-read-code (OfOffset First) = refl
-read-code (OfOffset Second) = refl
-read-code (OfOffset Third) = refl
-read-code (OfOffset Fourth) = refl
-read-code (OfWay Absolute) = refl
-read-code (OfWay Relative) = refl
-
-pub codes_read : CodesRead
-codes_read n g = (code_read n g, λ e. ap preparatory e ∙ read-code g)

@@ -1,10 +1,9 @@
 -- The parts of a line while they are read.
-use Rattle.std.proofs.Common.{◌≡◌, ℕ, ◌+◌, ◌<◌, ◌≤◌, List, [], ◌∷◌, ◌++◌, map, length, Ok, sym, ap, ◌∙◌, arith}
-use Rattle.std.proofs.lemmas.List.{append_assoc, length-append, map_push}
+use Rattle.std.proofs.Common.{◌≡◌, ◌+◌, ◌≤◌, List, ◌++◌, map, length}
 use Rattle.units.specs.declared.Measure.{Measure}
 use Rattle.reader.specs.declared.part.Part.{Part}
 use Rattle.reader.specs.declared.rest.Rest.{Rest}
-use Rattle.reader.specs.Lines.{Cut, shown, left, pieces, fault_in, Begins}
+use Rattle.reader.specs.Lines.{Cut, shown, left, pieces, fault_in}
 
 -- the parts read and what is left of the line are together the whole line, of at most 80 bytes
 abbrev pub Filling : Measure → Cut → List Part → Rest → Type 0

@@ -119,14 +119,3 @@ answered m k xs =
 
 pub one_answer : (m : Measure) (k : ℕ) (xs : List ℕ) (r : Answer) → r ≡ verdict m k xs → OneAnswer m k xs r
 one_answer m k xs r e = (subst (Answers m k xs) (sym e) (answered m k xs), λ s a. sym (only m k xs s a) ∙ sym e)
-
--- 31 only at the limits
-at-limits : (m : Measure) (k : ℕ) (xs : List ℕ) (e : LineFault) → Answers m k xs (Err e) → length xs ≤ 80 → k < 64 → number_of e ≡ 31 → ⊥
-at-limits m k xs TooLong a h f n = omega arith
-at-limits m k xs ProgramFull a h f n = omega (arith, a.1)
-at-limits m k xs (Form at) a h f n = omega arith
-at-limits m k xs (Order at) a h f n = omega arith
-at-limits m k xs (Range at) a h f n = omega arith
-
-pub within-limits : (m : Measure) (k : ℕ) (xs : List ℕ) (r : Answer) → r ≡ verdict m k xs → WithinLimits k xs r
-within-limits m k xs r v h f e i n = at-limits m k xs e (subst (Answers m k xs) (sym v ∙ i) (answered m k xs)) h f n

@@ -10,7 +10,8 @@ const MOST_UNITS: u32 = 40_000_000;
 
 // How many digits stand in front.
 fn digit_len(bytes: &[u8]) -> usize
-    ensures { result ≡ prefix_len digit bytes.now }
+    ensures value { result ≡ prefix_len digit bytes.now }
+    ensures bound { result ≤ length bytes.now }
 {
     bytes.iter().take_while(|b| b.is_ascii_digit()).count()
 }

@@ -2,7 +2,9 @@ ghost use Rattle.std.specs.Prelude.{◌≡◌, ◌+◌, ◌≤◌, ◌∷◌, le
 ghost use Rattle.std.specs.List.{prefix_len};
 ghost use Rattle.std.specs.Result.{result_ok};
 ghost use Rattle.reader.specs.Words.{numeric, letter_of, formed};
-ghost use Rattle.reader.specs.Lines.{blank, closed_at, Begins, BeginsAny, Next, Filled, cut};
+ghost use Rattle.reader.specs.Reads.{Stops};
+ghost use Rattle.units.specs.declared.Measure.{Measure};
+ghost use Rattle.reader.specs.Lines.{blank, closed_at, left, Begins, BeginsAny, Next, Filled, cut};
 
 use crate::block::Unknown;
 use crate::fault::LineFault;
@@ -73,14 +75,16 @@ impl Word<'_> {
 
 // How many blanks stand in front.
 fn blank_len(bytes: &[u8]) -> usize
-    ensures { result ≡ prefix_len blank bytes.now }
+    ensures value { result ≡ prefix_len blank bytes.now }
+    ensures bound { result ≤ length bytes.now }
 {
     bytes.iter().take_while(|b| **b == b' ').count()
 }
 
 // How many bytes in front may stand in a word after its letter.
 fn number_len(bytes: &[u8]) -> usize
-    ensures { result ≡ prefix_len numeric bytes.now }
+    ensures value { result ≡ prefix_len numeric bytes.now }
+    ensures bound { result ≤ length bytes.now }
 {
     bytes
         .iter()
@@ -129,18 +133,27 @@ fn word_at<'a>(
     Ok((Part::Word { word, at }, after))
 }
 
-// The first part of what is left of a line; none where only blanks are left.
-fn next_part<'a>(
-    rest: Rest<'a>,
-    measure: Measure,
-) -> Option<Result<(Part<'a>, Rest<'a>), LineFault>>
-    ensures { Next measure rest.entry result }
-{
-    let (_, start) = rest.split_at(blank_len(rest.bytes));
-    let (first, tail) = start.split_first()?;
-    match first {
-        b'(' => Some(remark_at(start.at, tail)),
-        _ => Some(word_at(start.at, first, tail, measure)),
+impl<'a> Rest<'a> {
+    // What is left after the blanks in front.
+    fn after_blanks(self) -> Rest<'a>
+        ensures same { (m : Measure) → left m self.entry ≡ left m result }
+        ensures start { Stops blank result.bytes.now }
+        ensures bound { length result.bytes.now ≤ length self.entry.bytes.now }
+    {
+        let (_, start) = self.split_at(blank_len(self.bytes));
+        start
+    }
+
+    // The first part, and what is left after it; none where only blanks are left.
+    fn next_part(self, measure: Measure) -> Option<Result<(Part<'a>, Rest<'a>), LineFault>>
+        ensures { Next measure self.entry result }
+    {
+        let start = self.after_blanks();
+        let (first, tail) = start.split_first()?;
+        match first {
+            b'(' => Some(remark_at(start.at, tail)),
+            _ => Some(word_at(start.at, first, tail, measure)),
+        }
     }
 }
 
@@ -154,7 +167,7 @@ pub(crate) fn parts_of<'a>(
 {
     let mut rest = Rest::of(line);
     let mut parts = ArrayVec::new();
-    while let Some(begun) = next_part(rest, measure) {
+    while let Some(begun) = rest.next_part(measure) {
         let (part, after) = begun?;
         parts.push(part);
         rest = after;

@@ -1,7 +1,6 @@
-use Rattle.std.proofs.Common.{sym, ◌∙◌}
 use Rattle.std.proofs.lemmas.Result.{err_from_is_err_and}
 use Rattle.reader.specs.Questions.{outside}
-use Rattle.reader.proofs.Passes.{pass_here, pass_on, pass_all, block_next, block_all}
+use Rattle.reader.proofs.Passes.{pass_here, pass_on, block_next}
 use Rattle.reader.proofs.values.block_of.Goals as goal
 
 pub returns-in_err-block : goal.returns-in_err-block
@@ -12,10 +11,4 @@ pub loop-part-preserved : goal.loop-part-preserved
 loop-part-preserved c = (
   pass_on (λ _ p. outside c.args.measure p) c.args.parts.now c.loop-part.part-index _ c.loop-part-test.true c.in_ok-block.ensures.0 c.loop-part.invariant.0,
   block_next c.args.measure c.loop-part.block c.in_ok-block.block _ c.args.parts.now c.loop-part.part-index _ c.loop-part-test.true c.in_ok-block.ensures.1 c.loop-part.invariant.1,
-)
-
-pub returns : goal.returns
-returns c = (
-  pass_all (λ _ p. outside c.args.measure p) c.args.parts.now c.loop-part.part-index c.loop-part-test.false c.loop-part.invariant.0,
-  sym (block_all c.args.measure c.loop-part.block c.args.parts.now c.loop-part.part-index c.loop-part-test.false) ∙ c.loop-part.invariant.1,
 )
