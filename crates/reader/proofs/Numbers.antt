@@ -1,11 +1,10 @@
 -- Numbers of words.
 use Rattle.std.proofs.Common.{◌≡◌, ℕ, zero, suc, ◌+◌, ◌-◌, ◌*◌, ◌^◌, ◌<◌, ◌≤◌, Bool, leb, List, [], ◌∷◌, length, get_or, drop, Some, None, sym, ap, ◌∙◌, mul-le-mul_left, pow-suc, arith}
-use Rattle.std.proofs.lemmas.List.{at_drop_more, at_drop_all}
+use Rattle.std.proofs.lemmas.List.{at_drop_more}
 use Rattle.std.proofs.lemmas.Bool.{lt-leb, le-leb, cond-true, cond-false}
-use Rattle.std.specs.List.{prefix_len}
 use Rattle.std.proofs.lemmas.Bool.Decides.{nat_tests}
 use Rattle.units.specs.declared.Measure.{Measure}
-use Rattle.reader.specs.Words.{digit, negative, body, whole, fraction, after, onto, upto, limited, scaled, units_of}
+use Rattle.reader.specs.Words.{negative, whole, fraction, after, onto, upto, limited, scaled, units_of}
 use Rattle.units.specs.Measures.{places}
 
 pub onto-more : (n : ℕ) (xs : List ℕ) (i : ℕ) → i < length xs → onto n (drop i xs) ≡ onto (n * 10 + (get_or xs i 0 - 48)) (drop (i + 1) xs)

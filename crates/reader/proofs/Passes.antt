@@ -1,15 +1,14 @@
 -- The passes over the parts of a line, one part on.
-use Rattle.std.proofs.Common.{◌≡◌, ℕ, ◌+◌, ◌-◌, ◌<◌, ◌≤◌, Bool, true, false, ◌||◌, List, [], ◌∷◌, map, length, get_or, take, drop, Some, None, Option, sym, refl, ap, ◌∙◌, subst, arith}
+use Rattle.std.proofs.Common.{◌≡◌, ℕ, ◌+◌, ◌-◌, ◌<◌, Bool, true, false, ◌||◌, List, [], ◌∷◌, map, length, get_or, take, drop, Some, None, Option, sym, refl, ap, ◌∙◌, subst, arith}
 use Rattle.std.specs.List.{list_any}
-use Rattle.std.proofs.lemmas.List.{at_drop_more, at_drop_all, drop_more, take_more, drop_all, length-map, get_or-map, take-map}
+use Rattle.std.proofs.lemmas.List.{drop_more, take_more, length-map, get_or-map, take-map}
 use Rattle.std.proofs.lemmas.Bool.{cond-true, cond-false}
-use Rattle.units.specs.declared.Measure.{Measure}
 use Rattle.std.specs.Option.{UnwrapsOrElse}
 use Rattle.reader.specs.declared.block.Block.{Block}
 use Rattle.reader.specs.declared.block.Value.{Value}
 use Rattle.reader.specs.declared.part.Part.{Part}
 use Rattle.reader.specs.Lines.{Piece, shown}
-use Rattle.reader.specs.Questions.{start_of, first_bad, clash, misplaced, empty, holding, more, said, block_from}
+use Rattle.reader.specs.Questions.{start_of, first_bad, clash, misplaced, empty, holding, more}
 
 pub misplaced-shown : (xs : List Part) (p : Piece) → misplaced (map shown xs) p ≡ list_any (λ x. clash (shown x) p) xs
 misplaced-shown [] p = refl
@@ -38,17 +37,9 @@ pass_here bad xs i d h e inv =
     let is : get_or (map shown xs) i (shown d) ≡ shown (get_or xs i d) = get_or-map shown xs i d (shown d) h in
     sym inv ∙ first_bad_here bad (map shown xs) i (shown d) lt (ap (λ b. bad b (get_or (map shown xs) i (shown d))) (take-map shown i xs) ∙ ap (bad (map shown (take i xs))) is ∙ e) ∙ ap (λ p. Some (start_of p)) is
 
-pub block_on : (m : Measure) (o : Option Block) (xs : List Part) (i : ℕ) (d : Part) → i < length xs → block_from m o (drop i (map shown xs)) ≡ block_from m (more (said m (shown (get_or xs i d))) o) (drop (i + 1) (map shown xs))
-block_on m o xs i d h =
-    let lt : i < length (map shown xs) = subst (λ n. i < n) (sym (length-map xs shown)) h in
-    at_drop_more (block_from m o) (map shown xs) i (shown d) lt ∙ ap (λ p. block_from m (more (said m p) o) (drop (i + 1) (map shown xs))) (get_or-map shown xs i d (shown d) h)
-
 -- the front of a slice, as `&s[0..i]` reads
 pub front : (xs : List Part) (i : ℕ) (p : Piece) (b : Bool) → b ≡ misplaced (map shown (take (i - 0) xs)) p → misplaced (map shown (take i xs)) p ≡ b
 front xs i p b e = ap (λ k. misplaced (map shown (take k xs)) p) (omega arith) ∙ sym e
-
-pub block_next : (m : Measure) (o b z : Option Block) (xs : List Part) (i : ℕ) (d : Part) → i < length xs → b ≡ more (said m (shown (get_or xs i d))) o → block_from m o (drop i (map shown xs)) ≡ z → block_from m b (drop (i + 1) (map shown xs)) ≡ z
-block_next m o b z xs i d h e inv = ap (λ c. block_from m c (drop (i + 1) (map shown xs))) e ∙ sym (block_on m o xs i d h) ∙ inv
 
 -- what the derived default of a block is
 abbrev pub IsDefault : Block → Type 0

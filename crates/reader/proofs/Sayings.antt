@@ -6,17 +6,12 @@ use Rattle.std.specs.Option.{option_map}
 use Rattle.units.specs.declared.Measure.{Measure}
 use Rattle.reader.specs.declared.part.Letter.{Letter}
 use Rattle.reader.specs.declared.part.Letter.TheVariants.{N, G, X, F, M}
-use Rattle.reader.specs.declared.block.Motion.TheVariants.{Rapid, Feed}
-use Rattle.reader.specs.declared.block.OffsetChoice.TheVariants.{Without, First, Second, Third, Fourth}
-use Rattle.reader.specs.declared.block.Way.TheVariants.{Absolute, Relative}
-use Rattle.reader.specs.declared.block.Preparatory.{Preparatory}
-use Rattle.reader.specs.declared.block.Preparatory.TheVariants.{OfMotion, OfOffset, OfWay}
 use Rattle.reader.specs.declared.block.Value.{Value}
 use Rattle.reader.specs.declared.block.Value.TheVariants as value
-use Rattle.reader.specs.Words.{onto, within, upto, whole, after, fraction, signed, limited, scaled, units_of, preparatory, code_of, value_of}
+use Rattle.reader.specs.Words.{onto, within, upto, whole, after, fraction, signed, limited, scaled, units_of, preparatory, value_of}
 use Rattle.units.specs.Measures.{places}
 use Rattle.reader.specs.Reads.{DecimalOf, WellFormed, Says, number, prepared, target, rate, auxiliary}
-use Rattle.reader.specs.Answers.{ValuesSaid, CodesRead}
+use Rattle.reader.specs.Answers.{ValuesSaid}
 use Rattle.reader.proofs.Forms.{decimal_to}
 use Rattle.reader.proofs.Blocks.{some_from}
 

@@ -1,15 +1,14 @@
 -- The verdict on a line is its one answer.
-use Rattle.std.proofs.Common.{◌≡◌, ℕ, ◌<◌, ◌≤◌, true, false, cond, ◌&&◌, eqb, List, [], ◌∷◌, length, Some, None, Ok, Err, Option, Result, sym, refl, ap, ◌∙◌, subst, inl, inr, ⊎_elim, arith}
+use Rattle.std.proofs.Common.{◌≡◌, ℕ, ◌<◌, ◌≤◌, true, false, cond, ◌&&◌, eqb, List, [], ◌∷◌, length, Some, None, Ok, Err, Option, Result, sym, refl, ap, ◌∙◌, subst, inl, inr, ⊎_elim}
 use Rattle.std.proofs.lemmas.Bool.{cond-true, cond-false, lt-ltb, le-ltb, le-leb, lt-leb, eq-eqb, eqb-true, and_parts, and_from, cases_lt, cases_Bool, both_ways}
 use Rattle.units.specs.declared.Measure.{Measure}
 use Rattle.reader.specs.declared.block.Block.{Block}
 use Rattle.reader.specs.declared.fault.LineFault.{LineFault}
 use Rattle.reader.specs.declared.fault.LineFault.TheVariants.{TooLong, ProgramFull, Form, Order, Range}
-use Rattle.reader.specs.Faults.{number_of}
 use Rattle.reader.specs.Lines.{Piece, cut, pieces, fault_in}
 use Rattle.reader.specs.Questions.{first_bad, misplaced, outside, block_from, asks, judged, per_cent, verdict}
 use Rattle.reader.specs.Reads.{Reads}
-use Rattle.reader.specs.Answers.{NoneBad, Fits, PerCent, Good, Answers, OneAnswer, WithinLimits}
+use Rattle.reader.specs.Answers.{NoneBad, Fits, PerCent, Good, Answers, OneAnswer}
 use Rattle.reader.proofs.Readings.{reads_cut, cut_reads}
 use Rattle.reader.proofs.Firsts.{none_bad, bad_none, first-at, at-first_bad}
 use Rattle.reader.proofs.Blocks.{gives, gives_same}

@@ -23,7 +23,7 @@ pub(crate) fn all_digits(bytes: &[u8]) -> bool
 }
 
 // `start` with the digits written after it, if that is at most `most`.
-// It ends at the first value past `most`, so that any number of digits fits.
+// It is a loop, and no fold, since the value of the turn before, at most `most`, is what keeps the next one in a `u32`.
 pub(crate) fn value_upto(start: u32, digits: &[u8], most: u32) -> Option<u32>
     requires start { start ≤ most }
     requires most { most ≤ 100000000 }

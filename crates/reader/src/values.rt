@@ -47,9 +47,7 @@ fn add(block: Option<Block>, part: Part, measure: Measure) -> Result<Option<Bloc
 pub(crate) fn block_of(parts: &[Part], measure: Measure) -> Result<Option<Block>, LineFault>
     ensures { Ranged measure (map shown parts.now) result }
 {
-    let mut block = None;
-    for part in parts {
-        block = add(block, *part, measure)?;
-    }
-    Ok(block)
+    parts
+        .iter()
+        .try_fold(None, |block, part| add(block, *part, measure))
 }
