@@ -275,13 +275,7 @@ block_same b c f g =
     let r : b.target ≡ c.target = option_same _ _ (λ a. f (value.Target a)) (λ a. g (value.Target a)) in
     let s : b.feed ≡ c.feed = option_same _ _ (λ a. f (value.Rate a)) (λ a. g (value.Rate a)) in
     let t : b.auxiliary ≡ c.auxiliary = option_same _ _ (λ a. f (value.Auxiliary a)) (λ a. g (value.Auxiliary a)) in
-    ap (λ x. record { number = x; motion = b.motion; offset = b.offset; way = b.way; target = b.target; feed = b.feed; auxiliary = b.auxiliary }) n
-    ∙ ap (λ x. record { number = c.number; motion = x; offset = b.offset; way = b.way; target = b.target; feed = b.feed; auxiliary = b.auxiliary }) o
-    ∙ ap (λ x. record { number = c.number; motion = c.motion; offset = x; way = b.way; target = b.target; feed = b.feed; auxiliary = b.auxiliary }) p
-    ∙ ap (λ x. record { number = c.number; motion = c.motion; offset = c.offset; way = x; target = b.target; feed = b.feed; auxiliary = b.auxiliary }) q
-    ∙ ap (λ x. record { number = c.number; motion = c.motion; offset = c.offset; way = c.way; target = x; feed = b.feed; auxiliary = b.auxiliary }) r
-    ∙ ap (λ x. record { number = c.number; motion = c.motion; offset = c.offset; way = c.way; target = c.target; feed = x; auxiliary = b.auxiliary }) s
-    ∙ ap (λ x. record { number = c.number; motion = c.motion; offset = c.offset; way = c.way; target = c.target; feed = c.feed; auxiliary = x }) t
+    λ i. record { number = n i; motion = o i; offset = p i; way = q i; target = r i; feed = s i; auxiliary = t i }
 
 pub gives_same : (m : Measure) (ps : List Piece) (o p : Option Block) → Gives m ps o → Gives m ps p → o ≡ p
 gives_same m ps None None g h = refl

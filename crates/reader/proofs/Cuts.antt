@@ -1,18 +1,16 @@
 -- How a line is cut at its first byte.
-use Rattle.std.proofs.Common.{◌≡◌, ℕ, zero, suc, ◌+◌, ◌-◌, ◌<◌, ◌≤◌, true, eqb, List, [], ◌∷◌, length, get_or, take, drop, Some, None, Ok, Err, Option, Result, sym, refl, ap, ◌∙◌, subst, arith}
+use Rattle.std.proofs.Common.{◌≡◌, ℕ, zero, suc, ◌+◌, ◌<◌, ◌≤◌, Bool, true, false, cond, eqb, List, [], ◌∷◌, length, take, drop, Some, Ok, Err, Option, Result, sym, refl, ap, ◌∙◌, subst, arith}
 use Rattle.std.specs.List.{prefix_len}
-use Rattle.std.proofs.lemmas.List.{take_rest, length-drop, drop-drop, length-take-le, nil_from_length}
-use Rattle.std.proofs.lemmas.List.Sums.{prefix_len-le-length}
+use Rattle.std.proofs.lemmas.List.{length-drop, drop-drop}
 use Rattle.std.proofs.lemmas.Bool.{cond-true, cond-false, ne_eqb, lt-ltb}
 use Rattle.std.proofs.lemmas.Bool.Decides.{nat_tests}
 use Rattle.units.specs.declared.Measure.{Measure}
-use Rattle.reader.specs.declared.fault.Malformed.{Malformed}
+use Rattle.reader.specs.declared.fault.LineFault.{LineFault}
 use Rattle.reader.specs.declared.part.Letter.{Letter}
 use Rattle.reader.specs.declared.part.Part.{Part}
-use Rattle.reader.specs.declared.part.Rest.{Rest}
+use Rattle.reader.specs.declared.rest.Rest.{Rest}
 use Rattle.reader.specs.Words.{numeric, letter_of, formed}
-use Rattle.reader.specs.Lines.{Piece, word, remark, end, part, inside, closed_at, remark_of, remark_in, word_in, opened, taken, onward, cut, Next}
-use Rattle.reader.proofs.Fronts.{rest, first_rest, length_rest}
+use Rattle.reader.specs.Lines.{Piece, word, remark, part, inside, closed_at, remark_of, remark_in, word_in, opened, taken, onward, blank, cut, left, Begins}
 
 pub cut_skip : (m : Measure) (k at : ℕ) (xs : List ℕ) → cut m k at xs ≡ cut m 0 (at + k) (drop k xs)
 cut_skip m zero at [] = refl
@@ -37,49 +35,47 @@ opened-word m at b bs l h e f = cond-false (eqb b 40) _ _ (ne_eqb b 40 h) ∙ ap
 pub taken_word : (b : ℕ) (bs : List ℕ) → (b ≡ 40 → ⊥) → taken b bs ≡ prefix_len numeric bs
 taken_word b bs h = cond-false (eqb b 40) _ _ (ne_eqb b 40 h)
 
+-- the part of a line's first bytes, and what is left after it
 abbrev pub Whole : Measure → ℕ → List ℕ → Piece → ℕ → List ℕ → Type 0
-Whole m at xs p to ys = (cut m 0 at xs ≡ part p (cut m 0 to ys)) × (to + length ys ≡ at + length xs) × (length ys < length xs)
+Whole m at xs p to ys = (cut m 0 at xs ≡ part p (cut m 0 to ys)) × (length ys < length xs)
 
-pub cut-remark : (m : Measure) (at n : ℕ) (xs text closed : List ℕ) → n ≡ prefix_len inside xs → text ≡ take n xs → closed ≡ drop n xs → 0 < length closed → Whole m at (40 ∷ xs) (remark text at) (at + 2 + length text) (rest closed)
-cut-remark m at n xs text closed p q e h =
-    let le : n ≤ length xs = subst (λ k. k ≤ length xs) (sym p) (prefix_len-le-length inside xs) in
-    let lc : length closed ≡ length xs - n = ap length e ∙ length-drop n xs in
-    let lr : length (rest closed) + 1 ≡ length closed = length_rest closed h in
-    let lt : length text ≡ n = ap length q ∙ length-take-le n xs le in
-    let rc : drop (n + 1) xs ≡ rest closed = sym (take_rest closed 1 ∙ ap (drop 1) e ∙ drop-drop 1 n xs) in
-    let o : opened m at 40 xs ≡ Some (remark text at) = remark-closed at xs (omega arith) ∙ ap (λ t. Some (remark t at)) (sym (q ∙ ap (λ k. take k xs) p)) in
-    let t : taken 40 xs ≡ n + 1 = ap (λ k. k + 1) (sym p) in
-    (cut_step m at 40 xs (Some (remark text at)) (n + 1) (λ z. omega arith) o t ∙ ap (part (remark text at)) (ap (λ a. cut m 0 a (drop (n + 1) xs)) (omega arith) ∙ ap (cut m 0 (at + 2 + length text)) rc), omega arith, omega arith)
+pub cut_remark : (m : Measure) (at n to : ℕ) (xs text closed ys : List ℕ) → n ≡ prefix_len inside xs → n < length xs → text ≡ take n xs → closed ≡ drop n xs → ys ≡ drop 1 closed → to ≡ at + 1 + (n + 1) → Whole m at (40 ∷ xs) (remark text at) to ys
+cut_remark m at n to xs text closed ys p h q c e w =
+    let after : ys ≡ drop (n + 1) xs = e ∙ ap (drop 1) c ∙ drop-drop 1 n xs in
+    let is : remark (take (prefix_len inside xs) xs) at ≡ remark text at = ap (λ t. remark t at) (sym (q ∙ ap (λ k. take k xs) p)) in
+    let o : opened m at 40 xs ≡ Some (remark text at) = remark-closed at xs (subst (λ k. k < length xs) p h) ∙ ap Some is in (
+      cut_step m at 40 xs (Some (remark text at)) (n + 1) (λ z. omega arith) o (ap (λ k. k + 1) (sym p))
+          ∙ ap (part (remark text at)) (ap (λ a. cut m 0 a (drop (n + 1) xs)) (sym w) ∙ ap (cut m 0 to) (sym after)),
+      omega (arith, ap length after ∙ length-drop (n + 1) xs),
+    )
 
-pub cut_word : (m : Measure) (at n b : ℕ) (l : Letter) (xs number bytes : List ℕ) → (b ≡ 32 → ⊥) → (b ≡ 40 → ⊥) → Some l ≡ letter_of b → n ≡ prefix_len numeric xs → number ≡ take n xs → bytes ≡ drop n xs → true ≡ formed m l number → Whole m at (b ∷ xs) (word l number at) (at + 1 + length number) bytes
-cut_word m at n b l xs number bytes g h i p q e f =
-    let le : n ≤ length xs = subst (λ k. k ≤ length xs) (sym p) (prefix_len-le-length numeric xs) in
-    let lc : length bytes ≡ length xs - n = ap length e ∙ length-drop n xs in
-    let lt : length number ≡ n = ap length q ∙ length-take-le n xs le in
+pub cut_word : (m : Measure) (at n to b : ℕ) (l : Letter) (xs number bytes : List ℕ) → (b ≡ 32 → ⊥) → (b ≡ 40 → ⊥) → letter_of b ≡ Some l → n ≡ prefix_len numeric xs → number ≡ take n xs → bytes ≡ drop n xs → to ≡ at + 1 + n → formed m l number ≡ true → Whole m at (b ∷ xs) (word l number at) to bytes
+cut_word m at n to b l xs number bytes g h i p q e w f =
     let is : number ≡ take (prefix_len numeric xs) xs = q ∙ ap (λ k. take k xs) p in
-    let o : opened m at b xs ≡ Some (word l number at) = opened-word m at b xs l h (sym i) (sym (f ∙ ap (formed m l) is)) ∙ ap (λ t. Some (word l t at)) (sym is) in
-    (cut_step m at b xs (Some (word l number at)) n g o (taken_word b xs h ∙ sym p) ∙ ap (part (word l number at)) (ap (λ a. cut m 0 a (drop n xs)) (omega arith) ∙ ap (cut m 0 (at + 1 + length number)) (sym e)), omega arith, omega arith)
+    let o : opened m at b xs ≡ Some (word l number at) = opened-word m at b xs l h i (sym (ap (formed m l) is) ∙ f) ∙ ap (λ t. Some (word l t at)) (sym is) in (
+      cut_step m at b xs (Some (word l number at)) n g o (taken_word b xs h ∙ sym p)
+          ∙ ap (part (word l number at)) (ap (λ a. cut m 0 a (drop n xs)) (sym w) ∙ ap (cut m 0 to) (sym e)),
+      omega (arith, ap length e ∙ length-drop n xs),
+    )
 
-abbrev pub Stepped : Type 0
-Stepped = Result (Option (Part × Rest)) Malformed
+pub closed_is : (n : ℕ) (xs : List ℕ) → closed_at xs ≡ Some n → (n ≡ prefix_len inside xs) × (n < length xs)
+closed_is n xs e = (grind (arith, nat_tests), grind (arith, nat_tests))
 
-pub next_none : (m : Measure) (at : ℕ) (xs : List ℕ) → length xs ≡ 0 → cut m 0 at xs ≡ end
-next_none m at xs h = ap (cut m 0 at) (nil_from_length xs h)
+-- a line is cut as what is left of it after its blanks
+blanks_by : (m : Measure) (at b : ℕ) (bs : List ℕ) (v : Bool) → blank b ≡ v → cut m 0 (suc at) bs ≡ cut m 0 (suc at + prefix_len blank bs) (drop (prefix_len blank bs) bs) → cut m 0 at (b ∷ bs) ≡ cut m 0 (at + cond v (1 + prefix_len blank bs) 0) (drop (cond v (1 + prefix_len blank bs) 0) (b ∷ bs))
+blanks_by m at b bs true e i =
+    let one : suc (prefix_len blank bs) ≡ 1 + prefix_len blank bs = omega arith in
+    cond-true _ _ _ e ∙ i ∙ ap (λ a. cut m 0 a (drop (prefix_len blank bs) bs)) (omega arith)
+    ∙ ap (λ k. cut m 0 (at + (1 + prefix_len blank bs)) (drop k (b ∷ bs))) one
+blanks_by m at b bs false e i = ap (λ a. cut m 0 a (b ∷ bs)) (omega arith)
 
-pub next_first : (m : Measure) (at b : ℕ) (xs : List ℕ) (r : Stepped) → 0 < length xs → get_or xs 0 0 ≡ b → Next m at (b ∷ rest xs) r → Next m at xs r
-next_first m at b xs r h e n = subst (λ ys. Next m at ys r) (sym (first_rest xs 0 h ∙ ap (λ y. y ∷ rest xs) e)) n
+pub cut_blanks : (m : Measure) (at : ℕ) (xs : List ℕ) → cut m 0 at xs ≡ cut m 0 (at + prefix_len blank xs) (drop (prefix_len blank xs) xs)
+cut_blanks m at [] = refl
+cut_blanks m at (b ∷ bs) = blanks_by m at b bs (blank b) refl (cut_blanks m (suc at) bs)
 
-pub next_blank : (m : Measure) (at : ℕ) (ys : List ℕ) (r : Stepped) → Next m (at + 1) ys r → Next m at (32 ∷ ys) r
-next_blank m at ys (Err e) h = ap (λ a. cut m 0 a ys) (omega arith) ∙ h
-next_blank m at ys (Ok None) h = ap (λ a. cut m 0 a ys) (omega arith) ∙ h
-next_blank m at ys (Ok (Some n)) h = (ap (λ a. cut m 0 a ys) (omega arith) ∙ h.0, omega (arith, h.1), omega (arith, h.2))
+pub left_start : (m : Measure) (r s : Rest) (k : ℕ) → k ≡ prefix_len blank r.bytes.now → s.bytes.now ≡ drop k r.bytes.now → s.at ≡ r.at + k → left m r ≡ left m s
+left_start m r s k n b a = cut_blanks m r.at r.bytes.now ∙ cc
 
-closed_at_lem : (n : ℕ) (xs : List ℕ) → Some n ≡ closed_at xs → (n ≡ prefix_len inside xs) × (n < length xs)
-closed_at_lem n xs e = (grind (arith, nat_tests), grind (arith, nat_tests))
-
-pub cut-closed : (m : Measure) (at n : ℕ) (xs text closed : List ℕ) → Some n ≡ closed_at xs → text ≡ take n xs → closed ≡ drop n xs → Whole m at (40 ∷ xs) (remark text at) (at + 2 + n) (rest closed)
-cut-closed m at n xs text closed e q d =
-    let i : (n ≡ prefix_len inside xs) × (n < length xs) = closed_at_lem n xs e in
-    let len : length text ≡ n = ap length q ∙ length-take-le n xs (omega (arith, i.1)) in
-    subst (λ k. Whole m at (40 ∷ xs) (remark text at) (at + 2 + k) (rest closed)) len
-    (cut-remark m at n xs text closed i.0 q d (omega (arith, i.1, ap length d ∙ length-drop n xs)))
+pub begins_start : (m : Measure) (r s : Rest) (b : ℕ) (ys : List ℕ) (o : Result (Part × Rest) LineFault) → left m r ≡ left m s → length s.bytes.now ≤ length r.bytes.now → s.bytes.now ≡ b ∷ ys → Begins m s.at (b ∷ ys) o → Begins m r.at r.bytes.now o
+begins_start m r s b ys (Err f) same le e i = (i.0, same ∙ ap (cut m 0 s.at) e ∙ i.1, i.2)
+begins_start m r s b ys (Ok n) same le e i = (same ∙ ap (cut m 0 s.at) e ∙ i.0, omega (arith, i.1, le, ap length e))

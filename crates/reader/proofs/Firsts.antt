@@ -51,7 +51,7 @@ some_at bad (q ∷ qs) acc at h =
 pub first-at : (bad : Test) (ps : List Piece) (at : ℕ) → first_bad bad [] ps ≡ Some at → FirstAt bad ps at
 first-at bad ps at h = let s : SomeAt bad [] ps at = some_at bad ps [] at h in (s.0, s.1, s.2, s.3, none_bad bad s.0 s.4, s.5, s.6)
 
-some_from : (bad : Test) (before acc : List Piece) (p : Piece) (after : List Piece) → first_bad bad acc before ≡ None → bad (acc ++ before) p ≡ true → first_bad bad acc (before ++ (p ∷ after)) ≡ Some (start_of p)
+pub some_from : (bad : Test) (before acc : List Piece) (p : Piece) (after : List Piece) → first_bad bad acc before ≡ None → bad (acc ++ before) p ≡ true → first_bad bad acc (before ++ (p ∷ after)) ≡ Some (start_of p)
 some_from bad [] acc p after n t = cond-true (bad acc p) _ _ (sym (ap (λ b. bad b p) (append-nil acc)) ∙ t)
 some_from bad (q ∷ qs) acc p after n t =
     let h : (bad acc q ≡ false) × (first_bad bad (acc ++ q ∷ []) qs ≡ None) = none_head bad acc q qs n in

@@ -1,4 +1,3 @@
-pub mod Fronts
 pub mod Numbers
 pub mod Cuts
 pub mod Tables
@@ -7,6 +6,7 @@ pub mod Runs
 pub mod Forms
 pub mod Readings
 pub mod Firsts
+pub mod Folds
 pub mod Blocks
 pub mod Sayings
 pub mod Verdicts

@@ -1,28 +1,14 @@
 -- Numbers of words.
-use Rattle.std.proofs.Common.{◌≡◌, ℕ, zero, suc, ◌+◌, ◌-◌, ◌*◌, ◌^◌, ◌<◌, ◌≤◌, Bool, true, false, leb, List, [], ◌∷◌, length, get_or, drop, Some, None, sym, ap, ◌∙◌, mul-le-mul_left, pow-suc, arith}
-use Rattle.std.proofs.lemmas.List.{at_drop_more, at_drop_all}
+use Rattle.std.proofs.Common.{◌≡◌, ℕ, zero, suc, ◌+◌, ◌-◌, ◌*◌, ◌^◌, ◌<◌, ◌≤◌, Bool, leb, List, [], ◌∷◌, length, get_or, drop, Some, None, sym, ap, ◌∙◌, mul-le-mul_left, pow-suc, arith}
+use Rattle.std.proofs.lemmas.List.{at_drop_more}
 use Rattle.std.proofs.lemmas.Bool.{lt-leb, le-leb, cond-true, cond-false}
-use Rattle.std.specs.List.{prefix_len}
 use Rattle.std.proofs.lemmas.Bool.Decides.{nat_tests}
 use Rattle.units.specs.declared.Measure.{Measure}
-use Rattle.reader.specs.Words.{digit, negative, body, whole, fraction, after, onto, upto, limited, scaled, units_of}
+use Rattle.reader.specs.Words.{negative, whole, fraction, after, onto, upto, limited, scaled, units_of}
 use Rattle.units.specs.Measures.{places}
-use Rattle.reader.proofs.Fronts.{rest, at_first}
-
-pub minus : (xs : List ℕ) → 0 < length xs → get_or xs 0 0 ≡ 45 → (true ≡ negative xs) × (rest xs ≡ body xs)
-minus xs h e = (sym (at_first negative xs 0 45 h e), sym (at_first body xs 0 45 h e))
-
-pub plus : (xs : List ℕ) → 0 < length xs → get_or xs 0 0 ≡ 43 → (false ≡ negative xs) × (rest xs ≡ body xs)
-plus xs h e = (sym (at_first negative xs 0 43 h e), sym (at_first body xs 0 43 h e))
-
-pub point : (xs : List ℕ) → 0 < length xs → get_or xs 0 0 ≡ 46 → Some (rest xs) ≡ fraction xs
-point xs h e = sym (at_first fraction xs 0 46 h e)
 
 pub onto-more : (n : ℕ) (xs : List ℕ) (i : ℕ) → i < length xs → onto n (drop i xs) ≡ onto (n * 10 + (get_or xs i 0 - 48)) (drop (i + 1) xs)
 onto-more n xs i h = at_drop_more (onto n) xs i 0 h
-
-pub onto-all : (n : ℕ) (xs : List ℕ) (i : ℕ) → length xs ≤ i → onto n (drop i xs) ≡ n
-onto-all n xs i h = at_drop_all (onto n) xs i h
 
 pub onto_grows : (n : ℕ) (xs : List ℕ) → n ≤ onto n xs
 onto_grows n [] = omega arith
@@ -39,9 +25,6 @@ past_most n most start i d xs h inv e lt =
     let here : onto n (drop i xs) ≡ onto (n * 10 + (get_or xs i 0 - 48)) (drop (i + 1) xs) = onto-more n xs i h in
     let grows : n * 10 + (get_or xs i 0 - 48) ≤ onto (n * 10 + (get_or xs i 0 - 48)) (drop (i + 1) xs) = onto_grows (n * 10 + (get_or xs i 0 - 48)) (drop (i + 1) xs) in
     upto-none most (onto start xs) (omega arith)
-
-pub no_fraction : (n b r : List ℕ) (k : ℕ) → b ≡ body n → k ≡ prefix_len digit b → r ≡ drop k b → None ≡ fraction r → fraction (after n) ≡ None
-no_fraction n b r k p q e h = cc
 
 pub upto_past : (most n : ℕ) → upto most n ≡ None → most < n
 upto_past most n h = grind (arith, nat_tests)

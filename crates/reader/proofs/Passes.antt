@@ -1,18 +1,18 @@
 -- The passes over the parts of a line, one part on.
-use Rattle.std.proofs.Common.{◌≡◌, ℕ, ◌+◌, ◌-◌, ◌<◌, ◌≤◌, Bool, true, false, ◌||◌, List, [], map, length, get_or, take, drop, Some, None, Option, sym, ap, ◌∙◌, subst, arith}
-use Rattle.std.proofs.lemmas.List.{at_drop_more, at_drop_all, drop_more, take_more, drop_all, length-map, get_or-map, take-map}
+use Rattle.std.proofs.Common.{◌≡◌, ℕ, ◌+◌, ◌-◌, ◌<◌, Bool, true, false, ◌||◌, List, [], ◌∷◌, map, length, get_or, take, drop, Some, None, Option, sym, refl, ap, ◌∙◌, subst, arith}
+use Rattle.std.specs.List.{list_any}
+use Rattle.std.proofs.lemmas.List.{drop_more, take_more, length-map, get_or-map, take-map}
 use Rattle.std.proofs.lemmas.Bool.{cond-true, cond-false}
-use Rattle.units.specs.declared.Measure.{Measure}
+use Rattle.std.specs.Option.{UnwrapsOrElse}
 use Rattle.reader.specs.declared.block.Block.{Block}
+use Rattle.reader.specs.declared.block.Value.{Value}
 use Rattle.reader.specs.declared.part.Part.{Part}
 use Rattle.reader.specs.Lines.{Piece, shown}
-use Rattle.reader.specs.Questions.{start_of, first_bad, clash, misplaced, more, said, block_from}
+use Rattle.reader.specs.Questions.{start_of, first_bad, clash, misplaced, empty, holding, more}
 
-pub misplaced-more : (xs : List Part) (p : Piece) (i : ℕ) (d : Part) → i < length xs → misplaced (map shown (drop i xs)) p ≡ (clash (shown (get_or xs i d)) p || misplaced (map shown (drop (i + 1) xs)) p)
-misplaced-more xs p i d h = at_drop_more (λ ys. misplaced (map shown ys) p) xs i d h
-
-pub misplaced-all : (xs : List Part) (p : Piece) (i : ℕ) → length xs ≤ i → misplaced (map shown (drop i xs)) p ≡ false
-misplaced-all xs p i h = at_drop_all (λ ys. misplaced (map shown ys) p) xs i h
+pub misplaced-shown : (xs : List Part) (p : Piece) → misplaced (map shown xs) p ≡ list_any (λ x. clash (shown x) p) xs
+misplaced-shown [] p = refl
+misplaced-shown (x ∷ xs) p = ap (λ b. clash (shown x) p || b) (misplaced-shown xs p)
 
 -- what is left of the parts has the same first bad part
 pub first_bad-more : (bad : List Piece → Piece → Bool) (ps : List Piece) (i : ℕ) (d : Piece) → i < length ps → bad (take i ps) (get_or ps i d) ≡ false → first_bad bad (take i ps) (drop i ps) ≡ first_bad bad (take (i + 1) ps) (drop (i + 1) ps)
@@ -21,15 +21,6 @@ first_bad-more bad ps i d h e =
 
 pub first_bad_here : (bad : List Piece → Piece → Bool) (ps : List Piece) (i : ℕ) (d : Piece) → i < length ps → bad (take i ps) (get_or ps i d) ≡ true → first_bad bad (take i ps) (drop i ps) ≡ Some (start_of (get_or ps i d))
 first_bad_here bad ps i d h e = ap (first_bad bad (take i ps)) (drop_more ps i d h) ∙ cond-true _ _ _ e
-
-pub first_bad-all : (bad : List Piece → Piece → Bool) (before ps : List Piece) (i : ℕ) → length ps ≤ i → first_bad bad before (drop i ps) ≡ None
-first_bad-all bad before ps i h = ap (first_bad bad before) (drop_all i ps h)
-
-pub clash_here : (xs : List Part) (p : Piece) (i : ℕ) (d : Part) → i < length xs → true ≡ clash (shown (get_or xs i d)) p → misplaced (map shown (drop i xs)) p ≡ misplaced (map shown xs) p → true ≡ misplaced (map shown xs) p
-clash_here xs p i d h e inv = sym (sym inv ∙ misplaced-more xs p i d h ∙ ap (λ b. b || misplaced (map shown (drop (i + 1) xs)) p) (sym e))
-
-pub clash_on : (xs : List Part) (p : Piece) (i : ℕ) (d : Part) → i < length xs → false ≡ clash (shown (get_or xs i d)) p → misplaced (map shown (drop i xs)) p ≡ misplaced (map shown xs) p → misplaced (map shown (drop (i + 1) xs)) p ≡ misplaced (map shown xs) p
-clash_on xs p i d h e inv = sym (misplaced-more xs p i d h ∙ ap (λ b. b || misplaced (map shown (drop (i + 1) xs)) p) (sym e)) ∙ inv
 
 abbrev pub SameFirst : (List Piece → Piece → Bool) → List Piece → ℕ → Type 0
 SameFirst bad ps i = first_bad bad (take i ps) (drop i ps) ≡ first_bad bad [] ps
@@ -46,20 +37,18 @@ pass_here bad xs i d h e inv =
     let is : get_or (map shown xs) i (shown d) ≡ shown (get_or xs i d) = get_or-map shown xs i d (shown d) h in
     sym inv ∙ first_bad_here bad (map shown xs) i (shown d) lt (ap (λ b. bad b (get_or (map shown xs) i (shown d))) (take-map shown i xs) ∙ ap (bad (map shown (take i xs))) is ∙ e) ∙ ap (λ p. Some (start_of p)) is
 
-pub pass_all : (bad : List Piece → Piece → Bool) (xs : List Part) (i : ℕ) → length xs ≤ i → SameFirst bad (map shown xs) i → first_bad bad [] (map shown xs) ≡ None
-pass_all bad xs i h inv = sym inv ∙ first_bad-all bad (take i (map shown xs)) (map shown xs) i (subst (λ n. n ≤ i) (sym (length-map xs shown)) h)
-
-pub block_on : (m : Measure) (o : Option Block) (xs : List Part) (i : ℕ) (d : Part) → i < length xs → block_from m o (drop i (map shown xs)) ≡ block_from m (more (said m (shown (get_or xs i d))) o) (drop (i + 1) (map shown xs))
-block_on m o xs i d h =
-    let lt : i < length (map shown xs) = subst (λ n. i < n) (sym (length-map xs shown)) h in
-    at_drop_more (block_from m o) (map shown xs) i (shown d) lt ∙ ap (λ p. block_from m (more (said m p) o) (drop (i + 1) (map shown xs))) (get_or-map shown xs i d (shown d) h)
-
-pub block_all : (m : Measure) (o : Option Block) (xs : List Part) (i : ℕ) → length xs ≤ i → block_from m o (drop i (map shown xs)) ≡ o
-block_all m o xs i h = at_drop_all (block_from m o) (map shown xs) i (subst (λ n. n ≤ i) (sym (length-map xs shown)) h)
-
 -- the front of a slice, as `&s[0..i]` reads
 pub front : (xs : List Part) (i : ℕ) (p : Piece) (b : Bool) → b ≡ misplaced (map shown (take (i - 0) xs)) p → misplaced (map shown (take i xs)) p ≡ b
 front xs i p b e = ap (λ k. misplaced (map shown (take k xs)) p) (omega arith) ∙ sym e
 
-pub block_next : (m : Measure) (o b z : Option Block) (xs : List Part) (i : ℕ) (d : Part) → i < length xs → b ≡ more (said m (shown (get_or xs i d))) o → block_from m o (drop i (map shown xs)) ≡ z → block_from m b (drop (i + 1) (map shown xs)) ≡ z
-block_next m o b z xs i d h e inv = ap (λ c. block_from m c (drop (i + 1) (map shown xs))) e ∙ sym (block_on m o xs i d h) ∙ inv
+-- what the derived default of a block is
+abbrev pub IsDefault : Block → Type 0
+IsDefault b =
+    (b.number ≡ None) × ((b.motion ≡ None) × ((b.offset ≡ None) × ((b.way ≡ None) × ((b.target ≡ None) × ((b.feed ≡ None) × (b.auxiliary ≡ None))))))
+
+default_empty : (b : Block) → IsDefault b → b ≡ empty
+default_empty b (n, (m, (o, (w, (t, (f, a)))))) = λ i. record { number = n i; motion = m i; offset = o i; way = w i; target = t i; feed = f i; auxiliary = a i }
+
+pub more_default : (v : Value) (o : Option Block) (b : Block) → UnwrapsOrElse o IsDefault b → Some (holding v b) ≡ more (Some v) o
+more_default v None b d = ap (λ c. Some (holding v c)) (default_empty b d)
+more_default v (Some c) b d = ap (λ c. Some (holding v c)) d

@@ -1,7 +1,7 @@
 -- A line reads as it is cut, and in no other way.
 use Rattle.std.proofs.Common.{◌≡◌, ℕ, zero, suc, ◌+◌, ◌<◌, ◌≤◌, true, false, eqb, List, [], ◌∷◌, ◌++◌, length, take, drop, Some, None, Option, sym, refl, ap, ◌∙◌, subst, ⊎_elim, arith}
 use Rattle.std.specs.List.{prefix_len}
-use Rattle.std.proofs.lemmas.List.{take-append-drop, take_rest, length-take-le, drop-drop, length-drop}
+use Rattle.std.proofs.lemmas.List.{take-append-drop, length-take-le, drop-drop, length-drop, length-append}
 use Rattle.std.proofs.lemmas.List.Sums.{prefix_len-le-length}
 use Rattle.std.proofs.lemmas.Bool.{cond-false, ne_eqb, cases_eq, cases_Bool, cases_lt, le-ltb, both_ways, eqb-true, not-false}
 use Rattle.std.proofs.lemmas.Bool.Decides.{nat_tests}
@@ -11,9 +11,9 @@ use Rattle.reader.specs.declared.part.Letter.TheVariants.{N, G, X, F, M}
 use Rattle.reader.specs.Words.{numeric, letter_of, formed}
 use Rattle.reader.specs.Lines.{Piece, word, remark, Cut, part, broken, inside, remark_of, remark_in, word_in, opened, cut, pieces, fault_in}
 use Rattle.reader.specs.Reads.{AllOf, Stops, byte_of, Reads, done, blank, a_word, a_remark, ill_formed, unclosed, unknown}
-use Rattle.reader.proofs.Runs.{run_leading, stops_leading, run_from_length, length_from_run, take-run, drop-run}
+use Rattle.reader.proofs.Runs.{run_leading, stops_leading, run_from_length, length_from_run, leading_run, take-run, drop-run}
 use Rattle.reader.proofs.Forms.{well_from, well_to, none_some}
-use Rattle.reader.proofs.Cuts.{cut_step, cut_word, cut-remark, taken_word, opened-word, remark-closed}
+use Rattle.reader.proofs.Cuts.{cut_step, cut_word, cut_remark, taken_word, opened-word, remark-closed}
 
 -- letters
 pub byte_letter : (l : Letter) → letter_of (byte_of l) ≡ Some l
@@ -167,11 +167,13 @@ cut_reads m _ _ _ _ (blank at bs ps o r) =
     subst (λ a. (pieces (cut m 0 a bs) ≡ ps) × (fault_in (cut m 0 a bs) ≡ o)) e (cut_reads m (at + 1) bs ps o r)
 cut_reads m _ _ _ _ (a_word at l n bs ps o run stops w r) =
     cut-part m at (at + 1 + length n) (byte_of l ∷ (n ++ bs)) bs (word l n at) ps o
-    (cut_word m at (prefix_len numeric (n ++ bs)) (byte_of l) l (n ++ bs) n bs (no_blank l) (no_remark l) (sym (byte_letter l)) refl (sym (take-run numeric n bs run stops)) (sym (drop-run numeric n bs run stops)) (sym (well_to m l n w))).0
+    (cut_word m at (prefix_len numeric (n ++ bs)) (at + 1 + length n) (byte_of l) l (n ++ bs) n bs (no_blank l) (no_remark l) (byte_letter l) refl (sym (take-run numeric n bs run stops)) (sym (drop-run numeric n bs run stops)) (ap (λ k. at + 1 + k) (sym (leading_run numeric n bs run stops))) (well_to m l n w)).0
     (cut_reads m (at + 1 + length n) bs ps o r)
 cut_reads m _ _ _ _ (a_remark at t bs ps o run r) =
     cut-part m at (at + 2 + length t) (40 ∷ (t ++ (41 ∷ bs))) bs (remark t at) ps o
-    ((cut-remark m at (prefix_len inside (t ++ (41 ∷ bs))) (t ++ (41 ∷ bs)) t (41 ∷ bs) refl (sym (take-run inside t (41 ∷ bs) run refl)) (sym (drop-run inside t (41 ∷ bs) run refl)) (omega arith)).0 ∙ ap (λ ys. part (remark t at) (cut m 0 (at + 2 + length t) ys)) (take_rest (41 ∷ bs) 1))
+    (cut_remark m at (prefix_len inside (t ++ (41 ∷ bs))) (at + 2 + length t) (t ++ (41 ∷ bs)) t (41 ∷ bs) bs refl
+    (omega (arith, leading_run inside t (41 ∷ bs) run refl, length-append t (41 ∷ bs)))
+    (sym (take-run inside t (41 ∷ bs) run refl)) (sym (drop-run inside t (41 ∷ bs) run refl)) refl (omega (arith, leading_run inside t (41 ∷ bs) run refl))).0
     (cut_reads m (at + 2 + length t) bs ps o r)
 cut_reads m _ _ _ _ (ill_formed at l n bs run stops w) =
     let ill : formed m l n ≡ false = ⊎_elim (λ f. absurd (w (well_from m l n f))) (λ f. f) (cases_Bool (formed m l n)) in

@@ -2,7 +2,7 @@
 use Rattle.std.proofs.Common.{◌≡◌, ℕ, suc, ◌+◌, Bool, true, false, cond, List, [], ◌∷◌, ◌++◌, length, take, drop, sym, refl, ap, ◌∙◌, subst, arith}
 use Rattle.std.specs.List.{prefix_len}
 use Rattle.std.proofs.lemmas.List.{append-nil, take_all, take_at, drop_at}
-use Rattle.std.proofs.lemmas.Bool.{cond-true, cond-false, eqb-true, eq-eqb}
+use Rattle.std.proofs.lemmas.Bool.{cond-true, cond-false, and_parts, and_from}
 use Rattle.reader.specs.Words.{digit, all_digits}
 use Rattle.reader.specs.Reads.{AllOf, Stops}
 
@@ -41,10 +41,12 @@ pub length_from_run : (p : ℕ → Bool) (xs : List ℕ) → AllOf p xs → pref
 length_from_run p xs r = ap (prefix_len p) (sym (append-nil xs)) ∙ leading_run p xs [] r tt
 
 pub digits_run : (xs : List ℕ) → all_digits xs ≡ true → AllOf digit xs
-digits_run xs e = run_from_length digit xs (eqb-true _ _ e)
+digits_run [] e = tt
+digits_run (x ∷ xs) e = let a = and_parts _ _ e in (a.0, digits_run xs a.1)
 
 pub run_digits : (xs : List ℕ) → AllOf digit xs → all_digits xs ≡ true
-run_digits xs r = eq-eqb _ _ (length_from_run digit xs r)
+run_digits [] r = refl
+run_digits (x ∷ xs) r = and_from _ _ r.0 (run_digits xs r.1)
 
 pub take-run : (p : ℕ → Bool) (n bs : List ℕ) → AllOf p n → Stops p bs → take (prefix_len p (n ++ bs)) (n ++ bs) ≡ n
 take-run p n bs r s = take_at n bs (prefix_len p (n ++ bs)) (sym (leading_run p n bs r s))

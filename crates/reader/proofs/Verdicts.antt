@@ -1,15 +1,14 @@
 -- The verdict on a line is its one answer.
-use Rattle.std.proofs.Common.{◌≡◌, ℕ, ◌<◌, ◌≤◌, true, false, cond, ◌&&◌, eqb, List, [], ◌∷◌, length, Some, None, Ok, Err, Option, Result, sym, refl, ap, ◌∙◌, subst, inl, inr, ⊎_elim, arith}
+use Rattle.std.proofs.Common.{◌≡◌, ℕ, ◌<◌, ◌≤◌, true, false, cond, ◌&&◌, eqb, List, [], ◌∷◌, length, Some, None, Ok, Err, Option, Result, sym, refl, ap, ◌∙◌, subst, inl, inr, ⊎_elim}
 use Rattle.std.proofs.lemmas.Bool.{cond-true, cond-false, lt-ltb, le-ltb, le-leb, lt-leb, eq-eqb, eqb-true, and_parts, and_from, cases_lt, cases_Bool, both_ways}
 use Rattle.units.specs.declared.Measure.{Measure}
 use Rattle.reader.specs.declared.block.Block.{Block}
 use Rattle.reader.specs.declared.fault.LineFault.{LineFault}
 use Rattle.reader.specs.declared.fault.LineFault.TheVariants.{TooLong, ProgramFull, Form, Order, Range}
-use Rattle.reader.specs.Faults.{number_of}
 use Rattle.reader.specs.Lines.{Piece, cut, pieces, fault_in}
 use Rattle.reader.specs.Questions.{first_bad, misplaced, outside, block_from, asks, judged, per_cent, verdict}
 use Rattle.reader.specs.Reads.{Reads}
-use Rattle.reader.specs.Answers.{NoneBad, Fits, PerCent, Good, Answers, OneAnswer, WithinLimits}
+use Rattle.reader.specs.Answers.{NoneBad, Fits, PerCent, Good, Answers, OneAnswer}
 use Rattle.reader.proofs.Readings.{reads_cut, cut_reads}
 use Rattle.reader.proofs.Firsts.{none_bad, bad_none, first-at, at-first_bad}
 use Rattle.reader.proofs.Blocks.{gives, gives_same}
@@ -48,21 +47,21 @@ read_on m k xs f p = fitting m k xs f ∙ cond-false _ _ _ (⊎_elim (λ t. absu
 
 -- the later questions
 abbrev Rest : Measure → List Piece → Answer
-Rest m ps = asks (first_bad (λ _ p. outside m p) [] ps) (λ at. Range (record { at = at })) (Ok (block_from m None ps))
+Rest m ps = asks (first_bad (λ _ p. outside m p) [] ps) Range (Ok (block_from m None ps))
 
 abbrev Parts : Measure → List Piece → Answer
-Parts m ps = asks (first_bad misplaced [] ps) (λ at. Order (record { at = at })) (Rest m ps)
+Parts m ps = asks (first_bad misplaced [] ps) Order (Rest m ps)
 
 whole-line : (m : Measure) (xs : List ℕ) (ps : List Piece) → Reads m 0 xs ps None → judged m (cut m 0 0 xs) ≡ Parts m ps
 whole-line m xs ps r =
     let c = cut_reads m 0 xs ps None r in
-    ap (λ o. asks o (λ at. Form (record { at = at })) (Parts m (pieces (cut m 0 0 xs)))) c.1 ∙ ap (Parts m) c.0
+    ap (λ o. asks o Form (Parts m (pieces (cut m 0 0 xs)))) c.1 ∙ ap (Parts m) c.0
 
 in_order : (m : Measure) (ps : List Piece) → NoneBad misplaced ps → Parts m ps ≡ Rest m ps
-in_order m ps n = ap (λ o. asks o (λ at. Order (record { at = at })) (Rest m ps)) (bad_none misplaced ps n)
+in_order m ps n = ap (λ o. asks o Order (Rest m ps)) (bad_none misplaced ps n)
 
 in_range_lem : (m : Measure) (ps : List Piece) → NoneBad (λ _ p. outside m p) ps → Rest m ps ≡ Ok (block_from m None ps)
-in_range_lem m ps n = ap (λ o. asks o (λ at. Range (record { at = at })) (Ok (block_from m None ps))) (bad_none (λ _ p. outside m p) ps n)
+in_range_lem m ps n = ap (λ o. asks o Range (Ok (block_from m None ps))) (bad_none (λ _ p. outside m p) ps n)
 
 good : (m : Measure) (xs : List ℕ) (o : Option Block) → Good m xs o → judged m (cut m 0 0 xs) ≡ Ok o
 good m xs o g =
@@ -75,32 +74,32 @@ only m k xs (Ok None) a = ⊎_elim (λ p. passed m k xs a.0 p) (λ g. read_on m 
 only m k xs (Ok (Some b)) a = read_on m k xs a.0 a.1 ∙ good m xs (Some b) a.2
 only m k xs (Err TooLong) a = too_long m k xs a
 only m k xs (Err ProgramFull) a = full m k xs a.0 a.1
-only m k xs (Err (Form e)) a =
-    read_on m k xs a.0 a.1 ∙ ap (λ o. asks o (λ at. Form (record { at = at })) (Parts m (pieces (cut m 0 0 xs)))) (cut_reads m 0 xs a.2.0 (Some e.at) a.2.1).1
-only m k xs (Err (Order e)) a =
+only m k xs (Err (Form at)) a =
+    read_on m k xs a.0 a.1 ∙ ap (λ o. asks o Form (Parts m (pieces (cut m 0 0 xs)))) (cut_reads m 0 xs a.2.0 (Some at) a.2.1).1
+only m k xs (Err (Order at)) a =
     let ps : List Piece = a.2.0 in
-    read_on m k xs a.0 a.1 ∙ whole-line m xs ps a.2.1 ∙ ap (λ o. asks o (λ at. Order (record { at = at })) (Rest m ps)) (at-first_bad misplaced ps e.at a.2.2)
-only m k xs (Err (Range e)) a =
+    read_on m k xs a.0 a.1 ∙ whole-line m xs ps a.2.1 ∙ ap (λ o. asks o Order (Rest m ps)) (at-first_bad misplaced ps at a.2.2)
+only m k xs (Err (Range at)) a =
     let ps : List Piece = a.2.0 in
     read_on m k xs a.0 a.1 ∙ whole-line m xs ps a.2.1 ∙ in_order m ps a.2.2
-    ∙ ap (λ o. asks o (λ at. Range (record { at = at })) (Ok (block_from m None ps))) (at-first_bad (λ _ p. outside m p) ps e.at a.2.3)
+    ∙ ap (λ o. asks o Range (Ok (block_from m None ps))) (at-first_bad (λ _ p. outside m p) ps at a.2.3)
 
 -- the verdict is an answer
 good_answer : (m : Measure) (k : ℕ) (xs : List ℕ) (o : Option Block) → Fits k xs → (PerCent k xs → ⊥) → Good m xs o → Answers m k xs (Ok o)
 good_answer m k xs None f p g = (f, inr (p, g))
 good_answer m k xs (Some b) f p g = (f, p, g)
 
-answer_range : (m : Measure) (k : ℕ) (xs : List ℕ) (ps : List Piece) (o : Option ℕ) → Fits k xs → (PerCent k xs → ⊥) → Reads m 0 xs ps None → NoneBad misplaced ps → first_bad (λ _ p. outside m p) [] ps ≡ o → Answers m k xs (asks o (λ at. Range (record { at = at })) (Ok (block_from m None ps)))
+answer_range : (m : Measure) (k : ℕ) (xs : List ℕ) (ps : List Piece) (o : Option ℕ) → Fits k xs → (PerCent k xs → ⊥) → Reads m 0 xs ps None → NoneBad misplaced ps → first_bad (λ _ p. outside m p) [] ps ≡ o → Answers m k xs (asks o Range (Ok (block_from m None ps)))
 answer_range m k xs ps None f p r n e =
     let q : NoneBad (λ _ p. outside m p) ps = none_bad (λ _ p. outside m p) ps e in
     good_answer m k xs (block_from m None ps) f p (ps, r, n, q, gives m ps n q)
 answer_range m k xs ps (Some at) f p r n e = (f, p, (ps, r, n, first-at (λ _ p. outside m p) ps at e))
 
-answer_order : (m : Measure) (k : ℕ) (xs : List ℕ) (ps : List Piece) (o : Option ℕ) → Fits k xs → (PerCent k xs → ⊥) → Reads m 0 xs ps None → first_bad misplaced [] ps ≡ o → Answers m k xs (asks o (λ at. Order (record { at = at })) (Rest m ps))
+answer_order : (m : Measure) (k : ℕ) (xs : List ℕ) (ps : List Piece) (o : Option ℕ) → Fits k xs → (PerCent k xs → ⊥) → Reads m 0 xs ps None → first_bad misplaced [] ps ≡ o → Answers m k xs (asks o Order (Rest m ps))
 answer_order m k xs ps None f p r e = answer_range m k xs ps (first_bad (λ _ p. outside m p) [] ps) f p r (none_bad misplaced ps e) refl
 answer_order m k xs ps (Some at) f p r e = (f, p, (ps, r, first-at misplaced ps at e))
 
-answer_form : (m : Measure) (k : ℕ) (xs : List ℕ) (ps : List Piece) (o : Option ℕ) → Fits k xs → (PerCent k xs → ⊥) → Reads m 0 xs ps o → Answers m k xs (asks o (λ at. Form (record { at = at })) (Parts m ps))
+answer_form : (m : Measure) (k : ℕ) (xs : List ℕ) (ps : List Piece) (o : Option ℕ) → Fits k xs → (PerCent k xs → ⊥) → Reads m 0 xs ps o → Answers m k xs (asks o Form (Parts m ps))
 answer_form m k xs ps None f p r = answer_order m k xs ps (first_bad misplaced [] ps) f p r refl
 answer_form m k xs ps (Some at) f p r = (f, p, (ps, r))
 
@@ -119,14 +118,3 @@ answered m k xs =
 
 pub one_answer : (m : Measure) (k : ℕ) (xs : List ℕ) (r : Answer) → r ≡ verdict m k xs → OneAnswer m k xs r
 one_answer m k xs r e = (subst (Answers m k xs) (sym e) (answered m k xs), λ s a. sym (only m k xs s a) ∙ sym e)
-
--- 31 only at the limits
-at-limits : (m : Measure) (k : ℕ) (xs : List ℕ) (e : LineFault) → Answers m k xs (Err e) → length xs ≤ 80 → k < 64 → number_of e ≡ 31 → ⊥
-at-limits m k xs TooLong a h f n = omega arith
-at-limits m k xs ProgramFull a h f n = omega (arith, a.1)
-at-limits m k xs (Form e) a h f n = omega arith
-at-limits m k xs (Order e) a h f n = omega arith
-at-limits m k xs (Range e) a h f n = omega arith
-
-pub within-limits : (m : Measure) (k : ℕ) (xs : List ℕ) (r : Answer) → r ≡ verdict m k xs → WithinLimits k xs r
-within-limits m k xs r v h f e i n = at-limits m k xs e (subst (Answers m k xs) (sym v ∙ i) (answered m k xs)) h f n

@@ -2,6 +2,7 @@
 use Rattle.std.specs.Prelude.{◌≡◌, ℕ, ◌<◌, ◌≤◌, Bool, true, false, ◌⊎◌, List, ◌∷◌, ◌++◌, length, Some, None, Ok, Err, Option, Result, ◌≢◌}
 use Rattle.units.specs.declared.Measure.{Measure}
 use Rattle.reader.specs.declared.part.Letter.{Letter}
+use Rattle.reader.specs.declared.block.Preparatory.{Preparatory}
 use Rattle.reader.specs.declared.block.Preparatory.TheVariants.{OfMotion, OfOffset, OfWay}
 use Rattle.reader.specs.declared.block.Value.{Value}
 use Rattle.reader.specs.declared.block.Value.TheVariants as value
@@ -9,7 +10,7 @@ use Rattle.reader.specs.declared.block.Block.{Block}
 use Rattle.reader.specs.declared.fault.LineFault.{LineFault}
 use Rattle.reader.specs.declared.fault.LineFault.TheVariants.{TooLong, ProgramFull, Form, Order, Range}
 use Rattle.reader.specs.Faults.{number_of}
-use Rattle.reader.specs.Words.{value_of}
+use Rattle.reader.specs.Words.{preparatory, code_of, value_of}
 use Rattle.reader.specs.Lines.{Piece, word}
 use Rattle.reader.specs.Questions.{start_of, misplaced, outside, said}
 use Rattle.reader.specs.Reads.{WellFormed, Reads, Says}
@@ -64,9 +65,9 @@ Answers m blocks xs (Ok None) = Fits blocks xs × (PerCent blocks xs ⊎ ((PerCe
 Answers m blocks xs (Ok (Some b)) = Fits blocks xs × (PerCent blocks xs → ⊥) × Good m xs (Some b)
 Answers m blocks xs (Err TooLong) = 80 < length xs
 Answers m blocks xs (Err ProgramFull) = (length xs ≤ 80) × (64 ≤ blocks)
-Answers m blocks xs (Err (Form e)) = Fits blocks xs × (PerCent blocks xs → ⊥) × ((ps : List Piece) × Reads m 0 xs ps (Some e.at))
-Answers m blocks xs (Err (Order e)) = Fits blocks xs × (PerCent blocks xs → ⊥) × ((ps : List Piece) × Reads m 0 xs ps None × FirstAt misplaced ps e.at)
-Answers m blocks xs (Err (Range e)) = Fits blocks xs × (PerCent blocks xs → ⊥) × ((ps : List Piece) × Reads m 0 xs ps None × NoneBad misplaced ps × FirstAt (λ _ p. outside m p) ps e.at)
+Answers m blocks xs (Err (Form at)) = Fits blocks xs × (PerCent blocks xs → ⊥) × ((ps : List Piece) × Reads m 0 xs ps (Some at))
+Answers m blocks xs (Err (Order at)) = Fits blocks xs × (PerCent blocks xs → ⊥) × ((ps : List Piece) × Reads m 0 xs ps None × FirstAt misplaced ps at)
+Answers m blocks xs (Err (Range at)) = Fits blocks xs × (PerCent blocks xs → ⊥) × ((ps : List Piece) × Reads m 0 xs ps None × NoneBad misplaced ps × FirstAt (λ _ p. outside m p) ps at)
 
 -- an answer, and no other is one
 abbrev pub OneAnswer : Measure → ℕ → List ℕ → Result (Option Block) LineFault → Type 0
@@ -79,3 +80,7 @@ WithinLimits blocks xs r = length xs ≤ 80 → blocks < 64 → (e : LineFault) 
 -- the value of a well formed word is what it says
 abbrev pub ValuesSaid : Measure → Type 0
 ValuesSaid m = (l : Letter) (n : List ℕ) (v : Value) → WellFormed m l n → (value_of m l n ≡ Some v → Says m l n v) × (Says m l n v → value_of m l n ≡ Some v)
+
+-- the number of a G word is that of what it says, and says that
+abbrev pub CodesRead : Type 0
+CodesRead = (n : ℕ) (g : Preparatory) → (preparatory n ≡ Some g → n ≡ code_of g) × (n ≡ code_of g → preparatory n ≡ Some g)

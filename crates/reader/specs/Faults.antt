@@ -6,13 +6,13 @@ use Rattle.reader.specs.declared.fault.LineFault.TheVariants.{TooLong, ProgramFu
 abbrev pub number_of : LineFault → ℕ
 number_of TooLong = 31
 number_of ProgramFull = 31
-number_of (Form e) = 32
-number_of (Order e) = 33
-number_of (Range e) = 34
+number_of (Form at) = 32
+number_of (Order at) = 33
+number_of (Range at) = 34
 
 abbrev pub place_of : LineFault → ℕ
 place_of TooLong = 0
 place_of ProgramFull = 0
-place_of (Form e) = e.at
-place_of (Order e) = e.at
-place_of (Range e) = e.at
+place_of (Form at) = at
+place_of (Order at) = at
+place_of (Range at) = at

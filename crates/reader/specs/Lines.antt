@@ -1,12 +1,14 @@
 -- A line cut into its words and remarks.
-use Rattle.std.specs.Prelude.{◌≡◌, ℕ, zero, suc, ◌+◌, ◌<◌, ◌≤◌, Bool, cond, not, List, [], ◌∷◌, map, length, take, Some, None, Ok, Err, Option, Result, ◌==◌, nat_lt}
+use Rattle.std.specs.Prelude.{◌≡◌, ℕ, zero, suc, ◌+◌, ◌<◌, Bool, cond, not, List, [], ◌∷◌, map, length, take, Some, None, Ok, Err, Option, Result, ◌==◌, nat_lt}
 use Rattle.std.specs.List.{prefix_len}
+use Rattle.arrayvec.specs.ArrayVec.{ArrayVec}
 use Rattle.units.specs.declared.Measure.{Measure}
-use Rattle.reader.specs.declared.fault.Malformed.{Malformed}
+use Rattle.reader.specs.declared.fault.LineFault.{LineFault}
+use Rattle.reader.specs.declared.fault.LineFault.TheVariants.{Form}
 use Rattle.reader.specs.declared.part.Letter.{Letter}
 use Rattle.reader.specs.declared.part.Part.{Part}
 use Rattle.reader.specs.declared.part.Part.TheVariants.{Word, Remark}
-use Rattle.reader.specs.declared.part.Rest.{Rest}
+use Rattle.reader.specs.declared.rest.Rest.{Rest}
 use Rattle.reader.specs.Words.{numeric, letter_of, formed}
 
 -- a word or a remark, with the byte at which it starts
@@ -19,6 +21,9 @@ pub data Cut : Type 0 where
   end : Cut
   part : Piece → Cut → Cut
   broken : ℕ → Cut
+
+abbrev pub blank : ℕ → Bool
+blank b = b == 32
 
 -- what may stand in a remark: all but )
 abbrev pub inside : ℕ → Bool
@@ -58,25 +63,25 @@ cut m zero at (b ∷ bs) = cond (b == 32) (cut m zero (suc at) bs) (onward (open
 cut m (suc k) at (b ∷ bs) = cut m k (suc at) bs
 
 abbrev pub shown : Part → Piece
-shown (Word l n at) = word l n.now at
+shown (Word w at) = word w.letter w.number.now at
 shown (Remark t at) = remark t.now at
 
 abbrev pub left : Measure → Rest → Cut
 left m r = cut m 0 r.at r.bytes.now
 
--- the first part of what is left of a line, which starts at the byte at
-abbrev pub Begins : Measure → ℕ → List ℕ → Result (Part × Rest) Malformed → Type 0
-Begins m at xs (Err e) = cut m 0 at xs ≡ broken e.at
-Begins m at xs (Ok n) = (cut m 0 at xs ≡ part (shown n.0) (left m n.1)) × (n.1.at + length n.1.bytes.now ≡ at + length xs) × (length n.1.bytes.now < length xs)
+-- the first part of what stands in a line from the byte at on, or the fault that there is none
+abbrev pub Begins : Measure → ℕ → List ℕ → Result (Part × Rest) LineFault → Type 0
+Begins m at xs (Err e) = (to : ℕ) × (cut m 0 at xs ≡ broken to) × (e ≡ Form to)
+Begins m at xs (Ok n) = (cut m 0 at xs ≡ part (shown n.0) (left m n.1)) × (length n.1.bytes.now < length xs)
 
 -- the same in any measure, as for a remark
-abbrev pub BeginsAny : ℕ → List ℕ → Result (Part × Rest) Malformed → Type 0
+abbrev pub BeginsAny : ℕ → List ℕ → Result (Part × Rest) LineFault → Type 0
 BeginsAny at xs r = (m : Measure) → Begins m at xs r
 
-abbrev pub Next : Measure → ℕ → List ℕ → Result (Option (Part × Rest)) Malformed → Type 0
-Next m at xs (Err e) = cut m 0 at xs ≡ broken e.at
-Next m at xs (Ok None) = cut m 0 at xs ≡ end
-Next m at xs (Ok (Some n)) = Begins m at xs (Ok n)
+-- the next part of what is left of a line, or its end
+abbrev pub Next : Measure → Rest → Option (Result (Part × Rest) LineFault) → Type 0
+Next m r None = left m r ≡ end
+Next m r (Some o) = Begins m r.at r.bytes.now o
 
 -- the well formed parts of a line, and the byte where the next one is not
 abbrev pub pieces : Cut → List Piece
@@ -89,7 +94,7 @@ fault_in end = None
 fault_in (part p c) = fault_in c
 fault_in (broken at) = Some at
 
--- a table that holds the parts of a line in front
-abbrev pub Filled : Cut → List Part → Result ℕ Malformed → Type 0
-Filled c table (Err e) = fault_in c ≡ Some e.at
-Filled c table (Ok n) = (fault_in c ≡ None) × (n ≤ length table) × (map shown (take n table) ≡ pieces c)
+-- the parts of a line that has no fault of form
+abbrev pub Filled : Cut → Result (ArrayVec Part) LineFault → Type 0
+Filled c (Err e) = (at : ℕ) × (fault_in c ≡ Some at) × (e ≡ Form at)
+Filled c (Ok v) = (fault_in c ≡ None) × (map shown v.items ≡ pieces c)

@@ -1,14 +1,14 @@
 -- The questions to a line, in their order, and the block that a good line gives.
 use Rattle.std.specs.Prelude.{◌≡◌, ℕ, Bool, true, false, cond, not, ◌&&◌, ◌||◌, List, [], ◌∷◌, ◌++◌, length, is_some, Some, None, Ok, Err, Option, Result, ◌==◌, nat_le, nat_lt}
+use Rattle.std.specs.List.{list_any}
 use Rattle.units.specs.declared.Measure.{Measure}
+use Rattle.reader.specs.declared.part.Letter.{Letter}
 use Rattle.reader.specs.declared.block.Preparatory.TheVariants.{OfMotion, OfOffset, OfWay}
 use Rattle.reader.specs.declared.block.Value.{Value}
 use Rattle.reader.specs.declared.block.Value.TheVariants as value
 use Rattle.reader.specs.declared.block.Block.{Block}
 use Rattle.reader.specs.declared.fault.LineFault.{LineFault}
 use Rattle.reader.specs.declared.fault.LineFault.TheVariants.{TooLong, ProgramFull, Form, Order, Range}
-use Rattle.reader.specs.declared.fault.OutOfOrder.{OutOfOrder}
-use Rattle.reader.specs.declared.fault.OutOfRange.{OutOfRange}
 use Rattle.reader.specs.Words.{rank, onto, preparatory, same_group, value_of}
 use Rattle.reader.specs.Lines.{Piece, word, remark, Cut, cut, pieces, fault_in}
 
@@ -22,15 +22,17 @@ first_bad bad before [] = None
 first_bad bad before (p ∷ ps) = cond (bad before p) (Some (start_of p)) (first_bad bad (before ++ p ∷ []) ps)
 
 -- Order: a word may not stand after one with a later letter, with the same letter, or, for G, of the same group.
+abbrev pub words_clash : Letter → List ℕ → Letter → List ℕ → Bool
+words_clash l n k o = nat_lt (rank k) (rank l) || (rank l == rank k && (not (rank l == 1) || same_group (preparatory (onto 0 n)) (preparatory (onto 0 o))))
+
 abbrev pub clash : Piece → Piece → Bool
-clash (word l n at) (word k o to) = nat_lt (rank k) (rank l) || (rank l == rank k && (not (rank l == 1) || same_group (preparatory (onto 0 n)) (preparatory (onto 0 o))))
+clash (word l n at) (word k o to) = words_clash l n k o
 clash (word l n at) (remark t to) = false
 clash (remark s at) (word k o to) = false
 clash (remark s at) (remark t to) = false
 
 abbrev pub misplaced : List Piece → Piece → Bool
-misplaced [] p = false
-misplaced (q ∷ qs) p = clash q p || misplaced qs p
+misplaced before p = list_any (λ q. clash q p) before
 
 -- Range: a word says something.
 abbrev pub outside : Measure → Piece → Bool
@@ -42,13 +44,13 @@ empty = record { number = None; motion = None; offset = None; way = None; target
 
 -- a block with one value more
 abbrev pub holding : Value → Block → Block
-holding (value.Number n) b = record { number = Some n; motion = b.motion; offset = b.offset; way = b.way; target = b.target; feed = b.feed; auxiliary = b.auxiliary }
-holding (value.Prepared (OfMotion v)) b = record { number = b.number; motion = Some v; offset = b.offset; way = b.way; target = b.target; feed = b.feed; auxiliary = b.auxiliary }
-holding (value.Prepared (OfOffset v)) b = record { number = b.number; motion = b.motion; offset = Some v; way = b.way; target = b.target; feed = b.feed; auxiliary = b.auxiliary }
-holding (value.Prepared (OfWay v)) b = record { number = b.number; motion = b.motion; offset = b.offset; way = Some v; target = b.target; feed = b.feed; auxiliary = b.auxiliary }
-holding (value.Target x) b = record { number = b.number; motion = b.motion; offset = b.offset; way = b.way; target = Some x; feed = b.feed; auxiliary = b.auxiliary }
-holding (value.Rate f) b = record { number = b.number; motion = b.motion; offset = b.offset; way = b.way; target = b.target; feed = Some f; auxiliary = b.auxiliary }
-holding (value.Auxiliary n) b = record { number = b.number; motion = b.motion; offset = b.offset; way = b.way; target = b.target; feed = b.feed; auxiliary = Some n }
+holding (value.Number n) b = record b { number = Some n }
+holding (value.Prepared (OfMotion v)) b = record b { motion = Some v }
+holding (value.Prepared (OfOffset v)) b = record b { offset = Some v }
+holding (value.Prepared (OfWay v)) b = record b { way = Some v }
+holding (value.Target x) b = record b { target = Some x }
+holding (value.Rate f) b = record b { feed = Some f }
+holding (value.Auxiliary n) b = record b { auxiliary = Some n }
 
 -- the block so far, with what a word says; none before the first word
 abbrev pub more : Option Value → Option Block → Option Block
@@ -70,9 +72,9 @@ asks (Some at) fault r = Err (fault at)
 
 abbrev pub judged : Measure → Cut → Result (Option Block) LineFault
 judged m c =
-    asks (fault_in c) (λ at. Form (record { at = at }))
-    (asks (first_bad misplaced [] (pieces c)) (λ at. Order (record { at = at }))
-    (asks (first_bad (λ _ p. outside m p) [] (pieces c)) (λ at. Range (record { at = at }))
+    asks (fault_in c) Form
+    (asks (first_bad misplaced [] (pieces c)) Order
+    (asks (first_bad (λ _ p. outside m p) [] (pieces c)) Range
     (Ok (block_from m None (pieces c)))))
 
 -- a line that opens with a per cent sign
@@ -88,15 +90,15 @@ verdict m blocks xs =
     (cond (blocks == 0 && per_cent xs) (Ok None)
     (judged m (cut m 0 0 xs))))
 
--- what the passes over the parts answer
-abbrev pub Ordered : List Piece → Result (Unit {0}) OutOfOrder → Type 0
+-- what the passes over the parts answer: the first bad one of them is the fault, or there is none
+abbrev pub Ordered : List Piece → Result (Unit {0}) LineFault → Type 0
 Ordered ps (Ok u) = first_bad misplaced [] ps ≡ None
-Ordered ps (Err e) = first_bad misplaced [] ps ≡ Some e.at
+Ordered ps (Err e) = (at : ℕ) × (first_bad misplaced [] ps ≡ Some at) × (e ≡ Order at)
 
-abbrev pub Added : Measure → Option Block → Piece → Result (Option Block) OutOfRange → Type 0
+abbrev pub Added : Measure → Option Block → Piece → Result (Option Block) LineFault → Type 0
 Added m o p (Ok b) = (outside m p ≡ false) × (b ≡ more (said m p) o)
-Added m o p (Err e) = (outside m p ≡ true) × (e.at ≡ start_of p)
+Added m o p (Err e) = (outside m p ≡ true) × (e ≡ Range (start_of p))
 
-abbrev pub Ranged : Measure → List Piece → Result (Option Block) OutOfRange → Type 0
+abbrev pub Ranged : Measure → List Piece → Result (Option Block) LineFault → Type 0
 Ranged m ps (Ok b) = (first_bad (λ _ p. outside m p) [] ps ≡ None) × (b ≡ block_from m None ps)
-Ranged m ps (Err e) = first_bad (λ _ p. outside m p) [] ps ≡ Some e.at
+Ranged m ps (Err e) = (at : ℕ) × (first_bad (λ _ p. outside m p) [] ps ≡ Some at) × (e ≡ Range at)

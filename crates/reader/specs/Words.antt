@@ -1,6 +1,6 @@
 -- The letters and numbers of words, and what each word says.
 use Rattle.std.specs.Prelude.{◌≡◌, ℕ, ◌+◌, ◌-◌, ◌*◌, ◌^◌, Bool, true, false, cond, not, ◌&&◌, ◌||◌, List, [], ◌∷◌, length, take, drop, ℤ, pos, neg_ℤ, Some, None, Option, ◌==◌, nat_le}
-use Rattle.std.specs.List.{prefix_len}
+use Rattle.std.specs.List.{prefix_len, list_all}
 use Rattle.units.specs.Measures.{places}
 use Rattle.units.specs.declared.Measure.{Measure}
 use Rattle.reader.specs.declared.number.Decimal.{Decimal}
@@ -17,8 +17,8 @@ use Rattle.reader.specs.declared.block.Value.TheVariants as value
 use Rattle.std.specs.Option.{option_map}
 use Rattle.reader.specs.declared.part.Letter.{Letter}
 use Rattle.reader.specs.declared.part.Letter.TheVariants.{N, G, X, F, M}
-use Rattle.reader.specs.declared.number.Run.{Run}
-use Rattle.reader.specs.declared.number.Run.TheVariants.{Digits, Number, Remark}
+use Rattle.reader.specs.declared.block.Group.{Group}
+use Rattle.reader.specs.declared.block.Group.TheVariants.{Motions, Offsets, Ways}
 
 abbrev pub motion_code : Motion → ℕ
 motion_code Rapid = 0
@@ -35,6 +35,11 @@ abbrev pub way_code : Way → ℕ
 way_code Absolute = 90
 way_code Relative = 91
 
+-- whether the M number of a block ends a program: M02 or M30
+abbrev pub ends_by : Option ℕ → Bool
+ends_by None = false
+ends_by (Some m) = m == 2 || m == 30
+
 -- 0 to 9
 abbrev pub digit : ℕ → Bool
 digit b = nat_le 48 b && nat_le b 57
@@ -43,14 +48,8 @@ digit b = nat_le 48 b && nat_le b 57
 abbrev pub numeric : ℕ → Bool
 numeric b = digit b || (b == 43 || (b == 45 || b == 46))
 
--- digits; a word after its letter; a remark up to its )
-abbrev pub has : Run → ℕ → Bool
-has Digits b = digit b
-has Number b = numeric b
-has Remark b = not (b == 41)
-
 abbrev pub all_digits : List ℕ → Bool
-all_digits bs = prefix_len digit bs == length bs
+all_digits bs = list_all digit bs
 
 -- n with the digits bs written after it; 48 is 0
 abbrev pub onto : ℕ → List ℕ → ℕ
@@ -132,6 +131,12 @@ preparatory n =
     (cond (n == 53) (Some (OfOffset Without)) (cond (n == 54) (Some (OfOffset First)) (cond (n == 55) (Some (OfOffset Second)) (cond (n == 56) (Some (OfOffset Third)) (cond (n == 57) (Some (OfOffset Fourth))
     (cond (n == 90) (Some (OfWay Absolute)) (cond (n == 91) (Some (OfWay Relative)) None))))))))
 
+-- the number of a G word
+abbrev pub code_of : Preparatory → ℕ
+code_of (OfMotion m) = motion_code m
+code_of (OfOffset o) = offset_code o
+code_of (OfWay w) = way_code w
+
 -- what a word says, where its number is in range
 abbrev pub value_of : Measure → Letter → List ℕ → Option Value
 value_of m N n = option_map value.Number (within 1 9999 (onto 0 n))
@@ -147,6 +152,12 @@ rank G = 1
 rank X = 2
 rank F = 3
 rank M = 4
+
+-- the group of a G word
+abbrev pub group_of : Preparatory → Group
+group_of (OfMotion m) = Motions
+group_of (OfOffset o) = Offsets
+group_of (OfWay w) = Ways
 
 -- two G words of one group; one that is not known is in none
 abbrev pub same_group : Option Preparatory → Option Preparatory → Bool

@@ -1,5 +1,6 @@
 ghost use Rattle.std.specs.Prelude.{◌≡◌};
-ghost use Rattle.reader.specs.Words.{motion_code, offset_code, way_code};
+ghost use Rattle.std.specs.Result.{result_ok};
+ghost use Rattle.reader.specs.Words.{motion_code, offset_code, way_code, preparatory, group_of, ends_by};
 ghost use Rattle.reader.specs.Questions.{holding};
 
 /// How an X is run.
@@ -34,6 +35,18 @@ pub(crate) enum Preparatory {
     OfWay(Way),
 }
 
+// The groups of G words: a line has at most one word of each.
+#[derive(Clone, Copy, PartialEq, Eq)]
+pub(crate) enum Group {
+    Motions,
+    Offsets,
+    Ways,
+}
+
+// A number or a byte that stands for nothing.
+#[derive(Clone, Copy)]
+pub(crate) struct Unknown;
+
 // What a word says.
 #[derive(Clone, Copy)]
 pub(crate) enum Value {
@@ -45,7 +58,7 @@ pub(crate) enum Value {
 }
 
 /// What the words of one line say; what no word says is absent.
-#[derive(Clone, Copy, PartialEq, Eq, Debug)]
+#[derive(Clone, Copy, PartialEq, Eq, Debug, Default)]
 pub struct Block {
     pub number: Option<u16>,
     pub motion: Option<Motion>,
@@ -58,16 +71,6 @@ pub struct Block {
 }
 
 impl Block {
-    pub(crate) const EMPTY: Block = Block {
-        number: None,
-        motion: None,
-        offset: None,
-        way: None,
-        target: None,
-        feed: None,
-        auxiliary: None,
-    };
-
     // The block with one value more.
     pub(crate) fn with(mut self, value: Value) -> Block
         ensures { result ≡ holding value self }
@@ -85,24 +88,24 @@ impl Block {
     }
 }
 
-impl Motion {
-    /// The number of its G word.
-    pub fn code(self) -> u8
-        ensures { result ≡ motion_code self }
-    {
-        match self {
+/// The number of its G word.
+impl From<Motion> for u8 {
+    ghost from_gives = { λ motion number. number ≡ motion_code motion };
+
+    fn from(motion: Motion) -> u8 {
+        match motion {
             Motion::Rapid => 0,
             Motion::Feed => 1,
         }
     }
 }
 
-impl OffsetChoice {
-    /// The number of its G word.
-    pub fn code(self) -> u8
-        ensures { result ≡ offset_code self }
-    {
-        match self {
+/// The number of its G word.
+impl From<OffsetChoice> for u8 {
+    ghost from_gives = { λ offset number. number ≡ offset_code offset };
+
+    fn from(offset: OffsetChoice) -> u8 {
+        match offset {
             OffsetChoice::Without => 53,
             OffsetChoice::First => 54,
             OffsetChoice::Second => 55,
@@ -112,14 +115,55 @@ impl OffsetChoice {
     }
 }
 
-impl Way {
-    /// The number of its G word.
-    pub fn code(self) -> u8
-        ensures { result ≡ way_code self }
-    {
-        match self {
+/// The number of its G word.
+impl From<Way> for u8 {
+    ghost from_gives = { λ way number. number ≡ way_code way };
+
+    fn from(way: Way) -> u8 {
+        match way {
             Way::Absolute => 90,
             Way::Relative => 91,
         }
     }
+}
+
+// What the G word of a number says.
+impl TryFrom<u8> for Preparatory {
+    type Error = Unknown;
+
+    ghost try_from_gives = { λ number r. result_ok r ≡ preparatory number };
+
+    fn try_from(number: u8) -> Result<Self, Unknown> {
+        match number {
+            0 => Ok(Preparatory::OfMotion(Motion::Rapid)),
+            1 => Ok(Preparatory::OfMotion(Motion::Feed)),
+            53 => Ok(Preparatory::OfOffset(OffsetChoice::Without)),
+            54 => Ok(Preparatory::OfOffset(OffsetChoice::First)),
+            55 => Ok(Preparatory::OfOffset(OffsetChoice::Second)),
+            56 => Ok(Preparatory::OfOffset(OffsetChoice::Third)),
+            57 => Ok(Preparatory::OfOffset(OffsetChoice::Fourth)),
+            90 => Ok(Preparatory::OfWay(Way::Absolute)),
+            91 => Ok(Preparatory::OfWay(Way::Relative)),
+            _ => Err(Unknown),
+        }
+    }
+}
+
+impl Preparatory {
+    pub(crate) fn group(self) -> Group
+        ensures { result ≡ group_of self }
+    {
+        match self {
+            Preparatory::OfMotion(_) => Group::Motions,
+            Preparatory::OfOffset(_) => Group::Offsets,
+            Preparatory::OfWay(_) => Group::Ways,
+        }
+    }
+}
+
+/// Whether the M number of a block ends a program: M02 or M30.
+pub fn ends_program(auxiliary: Option<u8>) -> bool
+    ensures { result ≡ ends_by auxiliary }
+{
+    matches!(auxiliary, Some(2 | 30))
 }

@@ -1,24 +1,5 @@
 ghost use Rattle.std.specs.Prelude.{◌≡◌};
-ghost use Rattle.reader.specs.declared.fault.LineFault.TheVariants.{Form, Order, Range};
 ghost use Rattle.reader.specs.Faults.{number_of, place_of};
-
-/// A letter that is not known, or a word or remark that is not well formed.
-#[derive(Clone, Copy, PartialEq, Eq, Debug)]
-pub struct Malformed {
-    pub at: usize,
-}
-
-/// A word that may not stand after the words before it.
-#[derive(Clone, Copy, PartialEq, Eq, Debug)]
-pub struct OutOfOrder {
-    pub at: usize,
-}
-
-/// A number out of its range, or a G that is not known.
-#[derive(Clone, Copy, PartialEq, Eq, Debug)]
-pub struct OutOfRange {
-    pub at: usize,
-}
 
 /// The first question that a line fails, with the byte where the first word or remark at fault starts.
 #[derive(Clone, Copy, PartialEq, Eq, Debug)]
@@ -27,9 +8,12 @@ pub enum LineFault {
     TooLong,
     /// 64 blocks stand already
     ProgramFull,
-    Form(Malformed),
-    Order(OutOfOrder),
-    Range(OutOfRange),
+    /// a letter that is not known, or a word or remark that is not well formed
+    Form { at: usize },
+    /// a word that may not stand after the words before it
+    Order { at: usize },
+    /// a number out of its range, or a G that is not known
+    Range { at: usize },
 }
 
 impl LineFault {
@@ -38,9 +22,9 @@ impl LineFault {
     {
         match self {
             LineFault::TooLong | LineFault::ProgramFull => 31,
-            LineFault::Form(_) => 32,
-            LineFault::Order(_) => 33,
-            LineFault::Range(_) => 34,
+            LineFault::Form { .. } => 32,
+            LineFault::Order { .. } => 33,
+            LineFault::Range { .. } => 34,
         }
     }
 
@@ -50,33 +34,7 @@ impl LineFault {
     {
         match self {
             LineFault::TooLong | LineFault::ProgramFull => 0,
-            LineFault::Form(fault) => fault.at,
-            LineFault::Order(fault) => fault.at,
-            LineFault::Range(fault) => fault.at,
+            LineFault::Form { at } | LineFault::Order { at } | LineFault::Range { at } => *at,
         }
-    }
-}
-
-impl From<Malformed> for LineFault {
-    ghost from_gives = { λ e r. r ≡ Form e };
-
-    fn from(e: Malformed) -> Self {
-        LineFault::Form(e)
-    }
-}
-
-impl From<OutOfOrder> for LineFault {
-    ghost from_gives = { λ e r. r ≡ Order e };
-
-    fn from(e: OutOfOrder) -> Self {
-        LineFault::Order(e)
-    }
-}
-
-impl From<OutOfRange> for LineFault {
-    ghost from_gives = { λ e r. r ≡ Range e };
-
-    fn from(e: OutOfRange) -> Self {
-        LineFault::Range(e)
     }
 }

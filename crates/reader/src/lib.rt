@@ -2,26 +2,26 @@
 
 ghost use Rattle.std.specs.Prelude.{◌≡◌, ◌≤◌, length};
 ghost use Rattle.reader.specs.Lines.{cut};
-ghost use Rattle.reader.specs.Questions.{per_cent, judged, verdict};
-ghost use Rattle.reader.specs.Answers.{OneAnswer, WithinLimits, ValuesSaid};
+ghost use Rattle.reader.specs.Questions.{judged, verdict};
+ghost use Rattle.reader.specs.Answers.{OneAnswer, WithinLimits, ValuesSaid, CodesRead};
 
 pub mod block;
 pub mod fault;
 mod number;
 mod order;
 mod part;
+mod rest;
 mod values;
 
-pub use block::{Block, Motion, OffsetChoice, Way};
-pub use fault::{LineFault, Malformed, OutOfOrder, OutOfRange};
+pub use block::{Block, Motion, OffsetChoice, Way, ends_program};
+pub use fault::LineFault;
 use order::in_order;
-use part::{Part, parts_into};
+use part::parts_of;
+use rest::MOST_BYTES;
 use units::Measure;
 use values::block_of;
 
-// The most bytes of a line, and the most blocks of a program.
-const MOST_BYTES: usize = 80;
-
+// The most blocks of a program.
 const MOST_BLOCKS: usize = 64;
 
 /// What a line of bytes says, for a program that has `blocks` blocks already:
@@ -31,6 +31,7 @@ pub fn read_line(line: &[u8], measure: Measure, blocks: usize) -> Result<Option<
     ensures answer { OneAnswer measure blocks line.now result }
     ensures limits { WithinLimits blocks line.now result }
     ensures said { ValuesSaid measure }
+    ensures codes { CodesRead }
 {
     judge(line, measure, blocks)
 }
@@ -45,19 +46,10 @@ fn judge(line: &[u8], measure: Measure, blocks: usize) -> Result<Option<Block>, 
     if blocks >= MOST_BLOCKS {
         return Err(LineFault::ProgramFull);
     }
-    if blocks == 0 && opens_with_per_cent(line) {
+    if blocks == 0 && line.starts_with(b"%") {
         return Ok(None);
     }
     read_words(line, measure)
-}
-
-fn opens_with_per_cent(line: &[u8]) -> bool
-    ensures { result ≡ per_cent line.now }
-{
-    match line {
-        [b'%', ..] => true,
-        _ => false,
-    }
 }
 
 // Form, order and range are each asked of the whole line before the next.
@@ -65,9 +57,7 @@ fn read_words(line: &[u8], measure: Measure) -> Result<Option<Block>, LineFault>
     requires { length line.now ≤ 80 }
     ensures { result ≡ judged measure (cut measure 0 0 line.now) }
 {
-    let mut table = [Part::Remark { text: line, at: 0 }; MOST_BYTES];
-    let count = parts_into(line, measure, &mut table)?;
-    let parts = &table[0..count];
-    in_order(parts)?;
-    Ok(block_of(parts, measure)?)
+    let parts = parts_of(line, measure)?;
+    in_order(&parts)?;
+    block_of(&parts, measure)
 }

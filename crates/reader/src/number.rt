@@ -1,55 +1,29 @@
 ghost use Rattle.std.specs.Prelude.{◌≡◌, ◌^◌, ◌≤◌, length, IfSome, Some, None};
 ghost use Rattle.std.specs.List.{prefix_len};
 ghost use Rattle.std.specs.Option.{option_map};
-ghost use Rattle.reader.specs.Words.{has, all_digits, onto, upto, negative, body, fraction, Split, decimal, limited, units_of};
+ghost use Rattle.reader.specs.Words.{digit, all_digits, onto, upto, negative, body, fraction, Split, decimal, limited, units_of};
 
 use units::Measure;
 
 // The greatest X, in units.
 const MOST_UNITS: u32 = 40_000_000;
 
-// Bytes that are read as one run.
-#[derive(Clone, Copy)]
-pub(crate) enum Run {
-    Digits,
-    /// what may stand in a word after its letter
-    Number,
-    /// what may stand in a remark after its `(`
-    Remark,
-}
-
-impl Run {
-    fn takes(self, b: u8) -> bool
-        ensures { result ≡ has self b }
-    {
-        match self {
-            Run::Digits => matches!(b, b'0'..=b'9'),
-            Run::Number => matches!(b, b'0'..=b'9' | b'+' | b'-' | b'.'),
-            Run::Remark => b != b')',
-        }
-    }
-
-    // How many bytes from the first on belong to the run.
-    pub(crate) fn count(self, bytes: &[u8]) -> usize
-        ensures { result ≡ prefix_len (has self) bytes.now }
-    {
-        for (i, b) in bytes.iter().enumerate() {
-            if !self.takes(*b) {
-                return i;
-            }
-        }
-        bytes.len()
-    }
+// How many digits stand in front.
+fn digit_len(bytes: &[u8]) -> usize
+    ensures value { result ≡ prefix_len digit bytes.now }
+    ensures bound { result ≤ length bytes.now }
+{
+    bytes.iter().take_while(|b| b.is_ascii_digit()).count()
 }
 
 pub(crate) fn all_digits(bytes: &[u8]) -> bool
     ensures { result ≡ all_digits bytes.now }
 {
-    Run::Digits.count(bytes) == bytes.len()
+    bytes.iter().all(|b| b.is_ascii_digit())
 }
 
 // `start` with the digits written after it, if that is at most `most`.
-// It ends at the first value past `most`, so that any number of digits fits.
+// It is a loop, and no fold, since the value of the turn before, at most `most`, is what keeps the next one in a `u32`.
 pub(crate) fn value_upto(start: u32, digits: &[u8], most: u32) -> Option<u32>
     requires start { start ≤ most }
     requires most { most ≤ 100000000 }
@@ -79,9 +53,9 @@ fn sign_of<'a>(number: &'a [u8]) -> (bool, &'a [u8])
     ensures sign { result.0 ≡ negative number.now }
     ensures rest { result.1.now ≡ body number.now }
 {
-    match number {
-        [b'-', tail @ ..] => (true, tail),
-        [b'+', tail @ ..] => (false, tail),
+    match number.split_first() {
+        Some((b'-', tail)) => (true, tail),
+        Some((b'+', tail)) => (false, tail),
         _ => (false, number),
     }
 }
@@ -90,10 +64,10 @@ fn sign_of<'a>(number: &'a [u8]) -> (bool, &'a [u8])
 fn decimals_of<'a>(rest: &'a [u8]) -> Option<&'a [u8]>
     ensures { option_map (λ x. x.now) result ≡ fraction rest.now }
 {
-    match rest {
-        [] => Some(rest),
-        [b'.', tail @ ..] => Some(tail),
-        _ => None,
+    match rest.split_first() {
+        None => Some(rest),
+        Some((b'.', tail)) => Some(tail),
+        Some(_) => None,
     }
 }
 
@@ -101,7 +75,7 @@ pub(crate) fn take_apart<'a>(number: &'a [u8]) -> Option<Decimal<'a>>
     ensures { Split number.now result }
 {
     let (negative, body) = sign_of(number);
-    let (whole, rest) = body.split_at(Run::Digits.count(body));
+    let (whole, rest) = body.split_at(digit_len(body));
     let decimals = decimals_of(rest)?;
     Some(Decimal {
         negative,
@@ -114,8 +88,7 @@ impl Decimal<'_> {
     pub(crate) fn fits(self, measure: Measure) -> bool
         ensures { result ≡ decimal measure self.entry.whole.now (Some self.entry.decimals.now) }
     {
-        1 <= self.whole.len()
-            && self.whole.len() <= 5
+        (1..=5).contains(&self.whole.len())
             && self.decimals.len() <= measure.places()
             && all_digits(self.decimals)
     }
@@ -129,7 +102,7 @@ pub(crate) fn units(number: &[u8], measure: Measure) -> Option<i32>
     let whole = value_upto(0, decimal.whole, MOST_UNITS)?;
     let digits = value_upto(whole, decimal.decimals, MOST_UNITS)?;
     let missing = measure.places().saturating_sub(decimal.decimals.len());
-    let magnitude = u64::from(digits) * scale(missing);
+    let magnitude = u64::from(digits) * 10u64.pow(missing as u32);
     with_sign(decimal.negative, magnitude)
 }
 
@@ -142,18 +115,4 @@ fn with_sign(negative: bool, magnitude: u64) -> Option<i32>
     }
     let units = magnitude as i32;
     if negative { Some(-units) } else { Some(units) }
-}
-
-// Ten times itself as often as decimals are missing: at most four.
-fn scale(missing: usize) -> u64
-    requires { missing ≤ 4 }
-    ensures { result ≡ 10 ^ missing }
-{
-    match missing {
-        0 => 1,
-        1 => 10,
-        2 => 100,
-        3 => 1_000,
-        _ => 10_000,
-    }
 }

@@ -1,13 +1,20 @@
-ghost use Rattle.std.specs.Prelude.{◌≡◌, ◌+◌, ◌≤◌, ◌∷◌, map, length, ◌≢◌};
-ghost use Rattle.reader.specs.Words.{letter_of, formed};
-ghost use Rattle.reader.specs.Lines.{closed_at, Begins, BeginsAny, Next, Filled, cut};
+ghost use Rattle.std.specs.Prelude.{◌≡◌, ◌+◌, ◌≤◌, ◌∷◌, length, ◌≢◌};
+ghost use Rattle.std.specs.List.{prefix_len};
+ghost use Rattle.std.specs.Result.{result_ok};
+ghost use Rattle.reader.specs.Words.{numeric, letter_of, formed};
+ghost use Rattle.reader.specs.Reads.{Stops};
+ghost use Rattle.units.specs.declared.Measure.{Measure};
+ghost use Rattle.reader.specs.Lines.{blank, closed_at, left, Begins, BeginsAny, Next, Filled, cut};
 
-use crate::fault::Malformed;
-use crate::number::{Run, all_digits, take_apart};
+use crate::block::Unknown;
+use crate::fault::LineFault;
+use crate::number::{all_digits, take_apart};
+use crate::rest::{MOST_BYTES, Rest};
+use arrayvec::ArrayVec;
 use units::Measure;
 
 // The letters of words, in the order in which they may stand.
-#[derive(Clone, Copy)]
+#[derive(Clone, Copy, PartialEq, Eq, PartialOrd, Ord)]
 pub(crate) enum Letter {
     N,
     G,
@@ -16,145 +23,154 @@ pub(crate) enum Letter {
     M,
 }
 
+impl TryFrom<u8> for Letter {
+    type Error = Unknown;
+
+    ghost try_from_gives = { λ b r. result_ok r ≡ letter_of b };
+
+    fn try_from(b: u8) -> Result<Self, Unknown> {
+        match b {
+            b'N' => Ok(Letter::N),
+            b'G' => Ok(Letter::G),
+            b'X' => Ok(Letter::X),
+            b'F' => Ok(Letter::F),
+            b'M' => Ok(Letter::M),
+            _ => Err(Unknown),
+        }
+    }
+}
+
+// A letter, and what stands after it.
+#[derive(Clone, Copy)]
+pub(crate) struct Word<'a> {
+    pub(crate) letter: Letter,
+    pub(crate) number: &'a [u8],
+}
+
 // A word or a remark of a line, with the byte at which it starts.
 #[derive(Clone, Copy)]
 pub(crate) enum Part<'a> {
-    Word {
-        letter: Letter,
-        number: &'a [u8],
-        at: usize,
-    },
-    Remark {
-        text: &'a [u8],
-        at: usize,
-    },
+    Word { word: Word<'a>, at: usize },
+    Remark { text: &'a [u8], at: usize },
 }
 
-// What is left of a line, and the byte at which it starts.
-#[derive(Clone, Copy)]
-pub(crate) struct Rest<'a> {
-    pub(crate) bytes: &'a [u8],
-    pub(crate) at: usize,
-}
-
-fn letter_of(b: u8) -> Option<Letter>
-    ensures { result ≡ letter_of b }
-{
-    match b {
-        b'N' => Some(Letter::N),
-        b'G' => Some(Letter::G),
-        b'X' => Some(Letter::X),
-        b'F' => Some(Letter::F),
-        b'M' => Some(Letter::M),
-        _ => None,
+// What stands in the places of a table that no part of a line has filled.
+impl Default for Part<'_> {
+    fn default() -> Self {
+        Part::Remark { text: &[], at: 0 }
     }
 }
 
-fn well_formed(letter: Letter, number: &[u8], measure: Measure) -> bool
-    ensures { result ≡ formed measure letter number.now }
-{
-    match letter {
-        Letter::N | Letter::F => !number.is_empty() && all_digits(number),
-        Letter::G | Letter::M => number.len() == 2 && all_digits(number),
-        Letter::X => match take_apart(number) {
-            Some(decimal) => decimal.fits(measure),
-            None => false,
-        },
+impl Word<'_> {
+    fn is_well_formed(self, measure: Measure) -> bool
+        ensures { result ≡ formed measure self.entry.letter self.entry.number.now }
+    {
+        match self.letter {
+            Letter::N | Letter::F => !self.number.is_empty() && all_digits(self.number),
+            Letter::G | Letter::M => self.number.len() == 2 && all_digits(self.number),
+            Letter::X => take_apart(self.number).is_some_and(|decimal| decimal.fits(measure)),
+        }
     }
+}
+
+// How many blanks stand in front.
+fn blank_len(bytes: &[u8]) -> usize
+    ensures value { result ≡ prefix_len blank bytes.now }
+    ensures bound { result ≤ length bytes.now }
+{
+    bytes.iter().take_while(|b| **b == b' ').count()
+}
+
+// How many bytes in front may stand in a word after its letter.
+fn number_len(bytes: &[u8]) -> usize
+    ensures value { result ≡ prefix_len numeric bytes.now }
+    ensures bound { result ≤ length bytes.now }
+{
+    bytes
+        .iter()
+        .take_while(|b| b.is_ascii_digit() || matches!(**b, b'+' | b'-' | b'.'))
+        .count()
 }
 
 // How many bytes a remark has between its marks, where `tail` stands after its `(`.
 fn remark_len(tail: &[u8]) -> Option<usize>
     ensures { result ≡ closed_at tail.now }
 {
-    let n = Run::Remark.count(tail);
-    if n < tail.len() { Some(n) } else { None }
+    tail.iter().position(|b| *b == b')')
 }
 
-// The remark whose `(` stands before `tail`.
-fn remark_at<'a>(tail: &'a [u8], at: usize) -> Result<(Part<'a>, Rest<'a>), Malformed>
-    requires { at + (1 + length tail.now) ≤ 80 }
-    ensures { BeginsAny at (40 ∷ tail.now) result }
+// The remark whose `(` is the byte at `at`, with `tail` after it.
+fn remark_at<'a>(at: usize, tail: Rest<'a>) -> Result<(Part<'a>, Rest<'a>), LineFault>
+    requires { tail.at ≡ at + 1 }
+    ensures { BeginsAny at (40 ∷ tail.entry.bytes.now) result }
 {
-    let Some(n) = remark_len(tail) else {
-        return Err(Malformed { at });
-    };
+    let n = remark_len(tail.bytes).ok_or(LineFault::Form { at })?;
     let (text, closed) = tail.split_at(n);
-    Ok((
-        Part::Remark { text, at },
-        Rest {
-            bytes: &closed[1..],
-            at: at + 2 + n,
-        },
-    ))
+    let (_, after) = closed.split_at(1);
+    Ok((Part::Remark { text, at }, after))
 }
 
-// The word that starts with the byte `first`, with `tail` after it.
+// The word that starts at `at` with the byte `first`, with `tail` after it.
 fn word_at<'a>(
-    first: u8,
-    tail: &'a [u8],
     at: usize,
+    first: u8,
+    tail: Rest<'a>,
     measure: Measure,
-) -> Result<(Part<'a>, Rest<'a>), Malformed>
-    requires room { at + (1 + length tail.now) ≤ 80 }
+) -> Result<(Part<'a>, Rest<'a>), LineFault>
+    requires place { tail.at ≡ at + 1 }
     requires no_blank { first ≢ 32 }
     requires no_remark { first ≢ 40 }
-    ensures { Begins measure at (first ∷ tail.now) result }
+    ensures { Begins measure at (first ∷ tail.entry.bytes.now) result }
 {
-    let Some(letter) = letter_of(first) else {
-        return Err(Malformed { at });
+    let Ok(letter) = Letter::try_from(first) else {
+        return Err(LineFault::Form { at });
     };
-    let (number, bytes) = tail.split_at(Run::Number.count(tail));
-    if !well_formed(letter, number, measure) {
-        return Err(Malformed { at });
+    let (number, after) = tail.split_at(number_len(tail.bytes));
+    let word = Word { letter, number };
+    if !word.is_well_formed(measure) {
+        return Err(LineFault::Form { at });
     }
-    Ok((
-        Part::Word { letter, number, at },
-        Rest {
-            bytes,
-            at: at + 1 + number.len(),
-        },
-    ))
+    Ok((Part::Word { word, at }, after))
 }
 
-// The first part of what is left of a line.
-fn next_part<'a>(
-    rest: Rest<'a>,
-    measure: Measure,
-) -> Result<Option<(Part<'a>, Rest<'a>)>, Malformed>
-    requires { rest.at + length rest.bytes.now ≤ 80 }
-    ensures { Next measure rest.entry.at rest.entry.bytes.now result }
-{
-    match rest.bytes {
-        [] => Ok(None),
-        [b' ', bytes @ ..] => next_part(
-            Rest {
-                bytes,
-                at: rest.at + 1,
-            },
-            measure,
-        ),
-        [b'(', tail @ ..] => Ok(Some(remark_at(tail, rest.at)?)),
-        [first, tail @ ..] => Ok(Some(word_at(*first, tail, rest.at, measure)?)),
+impl<'a> Rest<'a> {
+    // What is left after the blanks in front.
+    fn after_blanks(self) -> Rest<'a>
+        ensures same { (m : Measure) → left m self.entry ≡ left m result }
+        ensures start { Stops blank result.bytes.now }
+        ensures bound { length result.bytes.now ≤ length self.entry.bytes.now }
+    {
+        let (_, start) = self.split_at(blank_len(self.bytes));
+        start
+    }
+
+    // The first part, and what is left after it; none where only blanks are left.
+    fn next_part(self, measure: Measure) -> Option<Result<(Part<'a>, Rest<'a>), LineFault>>
+        ensures { Next measure self.entry result }
+    {
+        let start = self.after_blanks();
+        let (first, tail) = start.split_first()?;
+        match first {
+            b'(' => Some(remark_at(start.at, tail)),
+            _ => Some(word_at(start.at, first, tail, measure)),
+        }
     }
 }
 
-// Puts the parts of a line into a table with room for each of its bytes, and returns how many they are.
-pub(crate) fn parts_into<'a>(
+// The parts of a line.
+pub(crate) fn parts_of<'a>(
     line: &'a [u8],
     measure: Measure,
-    table: &mut [Part<'a>],
-) -> Result<usize, Malformed>
-    requires line { length line.now ≤ 80 }
-    requires table { length table.old ≡ 80 }
-    ensures { Filled (cut measure 0 0 line.now) table.new result }
+) -> Result<ArrayVec<Part<'a>, MOST_BYTES>, LineFault>
+    requires { length line.now ≤ 80 }
+    ensures { Filled (cut measure 0 0 line.now) result }
 {
-    let mut rest = Rest { bytes: line, at: 0 };
-    let mut count = 0;
-    while let Some((part, after)) = next_part(rest, measure)? {
-        table[count] = part;
-        count += 1;
+    let mut rest = Rest::of(line);
+    let mut parts = ArrayVec::new();
+    while let Some(begun) = rest.next_part(measure) {
+        let (part, after) = begun?;
+        parts.push(part);
         rest = after;
     }
-    Ok(count)
+    Ok(parts)
 }

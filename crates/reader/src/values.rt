@@ -4,10 +4,9 @@ ghost use Rattle.reader.specs.Lines.{shown};
 ghost use Rattle.reader.specs.Questions.{Added, Ranged};
 
 use crate::block::{Block, Value};
-use crate::fault::OutOfRange;
+use crate::fault::LineFault;
 use crate::number::{units, value_upto};
-use crate::order::preparatory_of;
-use crate::part::{Letter, Part};
+use crate::part::{Letter, Part, Word};
 use units::Measure;
 
 // The value of digits, from 1 to `most`.
@@ -18,42 +17,37 @@ fn counted(digits: &[u8], most: u16) -> Option<u16>
     if n == 0 { None } else { Some(n as u16) }
 }
 
-// What a word says, if its number is in range.
-fn value_of(letter: Letter, number: &[u8], measure: Measure) -> Option<Value>
-    ensures { result ≡ value_of measure letter number.now }
-{
-    match letter {
-        Letter::N => Some(Value::Number(counted(number, 9_999)?)),
-        Letter::G => Some(Value::Prepared(preparatory_of(number)?)),
-        Letter::X => Some(Value::Target(units(number, measure)?)),
-        Letter::F => Some(Value::Rate(counted(number, 65_000)?)),
-        Letter::M => Some(Value::Auxiliary(value_upto(0, number, 99)? as u8)),
+impl Word<'_> {
+    // What it says, if its number is in range.
+    fn value(self, measure: Measure) -> Option<Value>
+        ensures { result ≡ value_of measure self.entry.letter self.entry.number.now }
+    {
+        match self.letter {
+            Letter::N => counted(self.number, 9_999).map(Value::Number),
+            Letter::G => self.preparatory().map(Value::Prepared),
+            Letter::X => units(self.number, measure).map(Value::Target),
+            Letter::F => counted(self.number, 65_000).map(Value::Rate),
+            Letter::M => value_upto(0, self.number, 99).map(|m| Value::Auxiliary(m as u8)),
+        }
     }
 }
 
 // The block so far with what a part says; a remark says nothing.
-fn add(block: Option<Block>, part: Part, measure: Measure) -> Result<Option<Block>, OutOfRange>
+fn add(block: Option<Block>, part: Part, measure: Measure) -> Result<Option<Block>, LineFault>
     ensures { Added measure block (shown part.entry) result }
 {
-    let Part::Word { letter, number, at } = part else {
+    let Part::Word { word, at } = part else {
         return Ok(block);
     };
-    let Some(value) = value_of(letter, number, measure) else {
-        return Err(OutOfRange { at });
-    };
-    match block {
-        Some(block) => Ok(Some(block.with(value))),
-        None => Ok(Some(Block::EMPTY.with(value))),
-    }
+    let value = word.value(measure).ok_or(LineFault::Range { at })?;
+    Ok(Some(block.unwrap_or_default().with(value)))
 }
 
 // What the words of a line say together; none where it has no word.
-pub(crate) fn block_of(parts: &[Part], measure: Measure) -> Result<Option<Block>, OutOfRange>
+pub(crate) fn block_of(parts: &[Part], measure: Measure) -> Result<Option<Block>, LineFault>
     ensures { Ranged measure (map shown parts.now) result }
 {
-    let mut block = None;
-    for part in parts {
-        block = add(block, *part, measure)?;
-    }
-    Ok(block)
+    parts
+        .iter()
+        .try_fold(None, |block, part| add(block, *part, measure))
 }

@@ -1,13 +1,12 @@
-use Rattle.std.proofs.Common.{rules}
+use Rattle.std.proofs.Common.{sym, ◌∙◌, rules, tests}
+use Rattle.std.proofs.lemmas.Iterator.{YieldsList-from_slice}
+use Rattle.std.proofs.lemmas.Iterator.Search.{any_from_yields_List}
 use Rattle.reader.specs.Lines.{shown}
-use Rattle.reader.proofs.Passes.{clash_here, clash_on, misplaced-all}
+use Rattle.reader.specs.Questions.{clash}
+use Rattle.reader.proofs.Passes.{misplaced-shown}
 use Rattle.reader.proofs.order.misplaced_after.Goals as goal
 
-pub returns-then-clashes : goal.returns-then-clashes
-returns-then-clashes c = clash_here c.args.before.now (shown c.args.part) c.loop-earlier.earlier-index _ c.loop-earlier-test.true c.if-clashes.ensures c.loop-earlier.invariant
-
-pub loop-earlier-preserved : goal.loop-earlier-preserved
-loop-earlier-preserved c = clash_on c.args.before.now (shown c.args.part) c.loop-earlier.earlier-index _ c.loop-earlier-test.true c.if-clashes.ensures c.loop-earlier.invariant
-
 pub returns : goal.returns
-returns c = search (rules, misplaced-all)
+returns c =
+    any_from_yields_List (λ x. clash (shown x) (shown c.args.part)) _ _ _ c.any.ensures.ran (YieldsList-from_slice c.args.before.now cc) (λ x b q k. search (rules, tests))
+    ∙ sym (misplaced-shown c.args.before.now (shown c.args.part))

@@ -1,10 +1,8 @@
-use Rattle.std.proofs.Common.{rules}
-use Rattle.std.proofs.lemmas.List.Sums.{prefix_len-le-length}
+use Rattle.std.proofs.Common.{sym, arith}
 use Rattle.reader.proofs.Cuts.{cut_word}
 use Rattle.reader.proofs.part.word_at.Goals as goal
 
-pub split_at-requires : goal.split_at-requires
-split_at-requires c = search (rules, prefix_len-le-length)
-
 pub returns : goal.returns
-returns c = cut_word _ _ _ _ _ _ _ _ c.requires.no_blank c.requires.no_remark c.in-Some.ensures c.count.ensures c.split_at.ensures.front c.split_at.ensures.back c.if-not-well_formed.ensures
+returns c =
+    cut_word _ _ _ _ _ _ _ _ _ c.requires.no_blank c.requires.no_remark (sym c.in-Ok.ensures) c.number_len.ensures.value c.split_at.ensures.front c.split_at.ensures.back
+    (omega (arith, c.requires.place, c.split_at.ensures.place)) (sym c.if-not-is_well_formed.ensures)

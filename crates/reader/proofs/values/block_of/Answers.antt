@@ -1,21 +1,7 @@
-use Rattle.std.proofs.Common.{Some, sym, ap, ◌∙◌}
-use Rattle.std.proofs.lemmas.Result.{err_from_is_err_and}
-use Rattle.reader.specs.Questions.{outside}
-use Rattle.reader.proofs.Passes.{pass_here, pass_on, pass_all, block_next, block_all}
+use Rattle.std.proofs.Common.{rules, tests}
+use Rattle.std.proofs.lemmas.Iterator.{YieldsList-from_slice}
+use Rattle.reader.proofs.Folds.{ranged_try_fold}
 use Rattle.reader.proofs.values.block_of.Goals as goal
 
-pub returns-in_err-block : goal.returns-in_err-block
-returns-in_err-block c = let p = err_from_is_err_and c.from_residual.result c.from_residual.ensures.1 in rw (p.1, p.2)
-    (pass_here (λ _ p. outside c.args.measure p) c.args.parts.now c.loop-part.part-index _ c.loop-part-test.true c.in_err-block.ensures.0 c.loop-part.invariant.0 ∙ ap Some (sym c.in_err-block.ensures.1))
-
-pub loop-part-preserved : goal.loop-part-preserved
-loop-part-preserved c = (
-  pass_on (λ _ p. outside c.args.measure p) c.args.parts.now c.loop-part.part-index _ c.loop-part-test.true c.in_ok-block.ensures.0 c.loop-part.invariant.0,
-  block_next c.args.measure c.loop-part.block c.in_ok-block.block _ c.args.parts.now c.loop-part.part-index _ c.loop-part-test.true c.in_ok-block.ensures.1 c.loop-part.invariant.1,
-)
-
 pub returns : goal.returns
-returns c = (
-  pass_all (λ _ p. outside c.args.measure p) c.args.parts.now c.loop-part.part-index c.loop-part-test.false c.loop-part.invariant.0,
-  sym (block_all c.args.measure c.loop-part.block c.args.parts.now c.loop-part.part-index c.loop-part-test.false) ∙ c.loop-part.invariant.1,
-)
+returns c = ranged_try_fold _ c.args.measure _ _ _ _ c.args.parts.now c.try_fold.result c.try_fold.ensures.ran (YieldsList-from_slice c.args.parts.now cc) (λ o x r q k. search (rules, tests))
