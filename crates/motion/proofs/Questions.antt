@@ -1,6 +1,6 @@
--- Each question asked of machine data is answered yes exactly where what it asks holds.
-use Rattle.std.proofs.Common.{Decides, rules}
-use Rattle.std.proofs.lemmas.Bool.Decides.{Decides-and, Decides-like}
+-- Machine data whose ranges are answered yes are in range.
+use Rattle.std.proofs.Common.{◌≡◌, true, Decides, rules}
+use Rattle.std.proofs.lemmas.Bool.Decides.{Decides-and}
 use Rattle.motion.specs.declared.raw.RawData.{RawData}
 use Rattle.motion.specs.Data.{Frequencies, Signal, Gear, Limits, Offsets, InRange}
 use Rattle.motion.specs.Questions.{frequencies, signal, gear, limits, offsets, in_range}
@@ -20,8 +20,8 @@ limits_decides d = search rules
 offsets_decides : (d : RawData) → Decides (offsets d) (Offsets d)
 offsets_decides d = search rules
 
-pub in_range_decides : (d : RawData) → Decides (in_range d) (InRange d)
-in_range_decides d =
-    let groups =
-    Decides-and _ _ (Decides-and _ _ (Decides-and _ _ (Decides-and _ _ (frequencies_decides d) (signal_decides d)) (gear_decides d)) (limits_decides d)) (offsets_decides d) in
-    Decides-like _ (λ h. (h.0.0.0.0, h.0.0.0.1, h.0.0.1, h.0.1, h.1)) (λ h. ((((h.0, h.1), h.2), h.3), h.4)) groups
+pub in_range_means : (d : RawData) → in_range d ≡ true → InRange d
+in_range_means d e =
+    let four = Decides-and _ _ (Decides-and _ _ (Decides-and _ _ (frequencies_decides d) (signal_decides d)) (gear_decides d)) (limits_decides d) in
+    let h = (Decides-and _ _ four (offsets_decides d)).0 e in
+    (h.0.0.0.0, h.0.0.0.1, h.0.0.1, h.0.1, h.1)

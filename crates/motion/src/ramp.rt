@@ -21,6 +21,7 @@ fn next(raw: &RawData, f: u32) -> u32
 }
 
 // The first 4,096 steps of the ramp; past its end they stay at the maximum frequency.
+#[tactic(auto, using(crate::proofs::Rising::steps))]
 pub(crate) fn first_steps(raw: &RawData) -> [u32; 4096]
     requires fit { Frequencies raw.now }
     requires ordered { Ordered raw.now }

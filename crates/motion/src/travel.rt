@@ -45,6 +45,7 @@ impl Mover {
     }
 
     // The place one step up.
+    #[tactic(auto, using(crate::proofs::Way::ways))]
     fn above(&self) -> Place
         ensures step { result.step ≡ self.now.place.step + 1 }
         ensures sum { Summed (mover_ramp self.now) self.now.rate result }
@@ -55,6 +56,7 @@ impl Mover {
     }
 
     // The place one step down, that before the first step at the lowest.
+    #[tactic(auto, using(crate::proofs::Way::ways))]
     fn below(&self) -> Place
         ensures step { result.step ≡ self.now.place.step - 1 }
         ensures sum { Summed (mover_ramp self.now) self.now.rate result }
@@ -76,6 +78,7 @@ impl Mover {
     }
 
     // What is left after a tick at a place; with none the move is complete.
+    #[tactic(auto, using(crate::proofs::Way::ways))]
     fn left_after(&self, place: Option<Place>) -> u128
         requires { CanRun (mover_ramp self.now) (going_of self.now) place }
         ensures { result ≡ left_after (mover_ramp self.now) (going_of self.now) place }
@@ -123,6 +126,7 @@ impl Mover {
     }
 
     /// No move yet.
+    #[tactic(auto, using(crate::proofs::Way::ways))]
     pub fn new(machine: MachineData) -> Mover
         ensures same { mover_data result ≡ data_of machine }
         ensures none { going_of result ≡ idle }
@@ -137,6 +141,7 @@ impl Mover {
     }
 
     /// A new move by a number of pulses. A rate outside 1 to the maximum frequency is held to it.
+    #[tactic(auto, using(crate::proofs::Way::ways))]
     pub fn begin(&mut self, rate: u64, distance: i64)
         ensures same { mover_data self.new ≡ mover_data self.old }
         ensures after { going_of self.new ≡ begun (mover_data self.old).fm rate distance }

@@ -1,16 +1,6 @@
 use Rattle.std.proofs.Common.{◌<◌, ◌≢◌, length, arith, rules, get_or-set_other, get_or-set_same, below_more}
-use Rattle.motion.proofs.Curve.{first-none, first_more}
-use Rattle.motion.proofs.Rising.{curve_within}
+use Rattle.motion.proofs.Curve.{first_more}
 use Rattle.motion.proofs.ramp.first_steps.Goals as goal
-
-pub loop-step-init : goal.loop-step-init
-loop-step-init c = search (rules, first-none)
-
-pub next-f-requires-clause-from : goal.next-f-requires-clause-from
-next-f-requires-clause-from c = omega (arith, curve_within)
-
-pub next-f-requires-clause-upto : goal.next-f-requires-clause-upto
-next-f-requires-clause-upto c = omega (arith, curve_within)
 
 pub loop-step-preserved : goal.loop-step-preserved
 loop-step-preserved c = (
