@@ -1,9 +1,10 @@
 pub mod Ints
 pub mod Curve
-pub mod Both
+pub mod Questions
 pub mod Way
 pub mod Choice
 pub mod Rising
 pub mod Drift
 pub mod Runs
 pub mod Speed
+pub mod Landing

@@ -99,3 +99,6 @@ last_step fm f r v n e k h = (
       (λ (q : 2 ≤ k). cond-false (leb k 1) true (ltb (f (k - 1)) v) (lt-leb k 1 (omega arith)) ∙ lt-ltb _ _ (e.2 (k - 1) (omega arith) (omega arith)))
       (cases_lt k 2),
 )
+
+-- the steps of the curve in turn
+pub ruleset steps = (first-none, first_more, curve_within)

@@ -5,6 +5,7 @@ use Rattle.motion.specs.declared.machine.MachineData.{MachineData}
 use Rattle.motion.specs.declared.fault.DataFault.{DataFault}
 use Rattle.motion.specs.declared.fault.DataFault.TheVariants.{OutOfRange, Disagree}
 use Rattle.motion.specs.Data.{InRange, Agree}
+use Rattle.motion.specs.Questions.{refusal}
 
 -- the data, as they were sent
 abbrev pub data_of : MachineData → RawData
@@ -24,3 +25,7 @@ Refused d Disagree = InRange d × (Agree d → ⊥)
 abbrev pub Checked : RawData → Result MachineData DataFault → Type 0
 Checked d (Ok m) = InRange d × Agree d × (data_of m ≡ d)
 Checked d (Err e) = Refused d e
+
+-- the answer to data: the fault of the first question that fails, and what each answer says
+abbrev pub Entered : RawData → Result MachineData DataFault → Type 0
+Entered d r = (fault_in r ≡ refusal d) × Checked d r

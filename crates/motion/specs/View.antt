@@ -9,7 +9,7 @@ abbrev pub mover_data : Mover → RawData
 mover_data m = m.machine.values
 
 abbrev pub going_of : Mover → Going
-going_of m = record { rate = m.rate; total = m.total; left = m.left; step = m.step }
+going_of m = record { rate = m.rate; total = m.total; left = m.left; step = m.place.step }
 
 abbrev pub mover_ramp : Mover → Ramp
 mover_ramp m = ramp_of (mover_data m)

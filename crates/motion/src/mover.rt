@@ -4,7 +4,21 @@ ghost use Rattle.motion.specs.Travel.{way};
 
 use crate::machine::MachineData;
 
+// A place on the ramp: a step, with the sum over the steps up to it, so that no tick sums the ramp.
+#[derive(Clone, Copy)]
+pub(crate) struct Place {
+    // 0 before the first step
+    pub(crate) step: u32,
+    pub(crate) sum: u64,
+}
+
+impl Place {
+    // Before the first step.
+    pub(crate) const START: Place = Place { step: 0, sum: 0 };
+}
+
 /// Machine data with the numbers of a move in progress.
+// Its facts stand as ghost fields and not behind one value: the law over all movers and the sum of a place speak of them.
 #[derive(Drop)]
 pub struct Mover {
     pub(crate) machine: MachineData,
@@ -13,16 +27,14 @@ pub struct Mover {
     // millionths of a pulse, of the whole move and left to run
     pub(crate) total: u128,
     pub(crate) left: u128,
-    // the ramp step of the last tick, 0 before the first
-    pub(crate) step: u32,
-    // the running sum over the steps up to this one, so that no tick sums the ramp
-    pub(crate) sum: u64,
+    // where the last tick was
+    pub(crate) place: Place,
     ghost slowest: { 1 ≤ rate },
     ghost fastest: { rate ≤ machine.values.fm },
-    ghost steps: { step ≤ 4096 },
+    ghost steps: { place.step ≤ 4096 },
     ghost longest: { total ≤ 1000000 * 2 ^ 63 },
     ghost within: { left ≤ total },
-    ghost summed: { sum ≡ way (ramp_of machine.values) rate step },
+    ghost summed: { place.sum ≡ way (ramp_of machine.values) rate place.step },
     // braking from here never runs more than is left
-    ghost safe: { way (ramp_of machine.values) rate (step - 1) ≤ left },
+    ghost safe: { way (ramp_of machine.values) rate (place.step - 1) ≤ left },
 }

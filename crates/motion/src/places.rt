@@ -1,51 +1,35 @@
-ghost use Rattle.std.specs.Prelude.{◌≡◌, ℕ, ◌^◌, ◌≤◌, pos, ◌+ℤ◌, unsigned_abs};
+ghost use Rattle.std.specs.Prelude.{◌≡◌, ◌≤◌, unsigned_abs};
 ghost use Rattle.motion.specs.Entry.{data_of};
 ghost use Rattle.motion.specs.Places.{rounded_of, held, pulses_by, nearest_by, rate_by};
 
 use crate::machine::MachineData;
-
-// Half the divisor is added first, so that the quotient's floor is the nearest whole number.
-fn with_half(doubled: i128, j: u32) -> i128
-    requires { unsigned_abs doubled ≤ 2 ^ 96 }
-    ensures { result ≡ doubled +ℤ pos j }
-{
-    doubled + j as i128
-}
 
 // z × k ÷ j to the nearest whole number, halves upward. The width holds every result.
 fn rounded(z: i64, k: u32, j: u32) -> i128
     requires { 1 ≤ j }
     ensures { result ≡ rounded_of z k j }
 {
-    let doubled = z as i128 * (2 * k as u64) as i128;
-    with_half(doubled, j).div_euclid((2 * j as u64) as i128)
-}
-
-// The same of a coordinate by the data of a turn, which fits 64 bits.
-fn rounded_coordinate(c: i32, k: u32, j: u32) -> i64
-    requires least { 1 ≤ j }
-    requires greatest { j ≤ 1000000 }
-    requires few { k ≤ 10000 }
-    ensures { result ≡ rounded_of c k j }
-{
-    rounded(c as i64, k, j) as i64
+    let (z, k, j) = (i128::from(z), i128::from(k), i128::from(j));
+    // half the divisor is added first, so that the quotient's floor is the nearest whole number
+    (z * (2 * k) + j).div_euclid(2 * j)
 }
 
 // q, held between two coordinates.
 fn held_between(start: i32, target: i32, q: i128) -> i32
     ensures { result ≡ held start target q }
 {
-    let low = start.min(target) as i128;
-    let high = start.max(target) as i128;
+    let low = i128::from(start.min(target));
+    let high = i128::from(start.max(target));
     q.clamp(low, high) as i32
 }
 
 impl MachineData {
-    /// The pulses of a coordinate, from zero.
+    /// The pulses of a coordinate, from zero. No 32-bit coordinate has more than 50,000,000,000,000.
     pub fn pulses_of(&self, coordinate: i32) -> i64
-        ensures { result ≡ pulses_by (data_of self.now) coordinate }
+        ensures value { result ≡ pulses_by (data_of self.now) coordinate }
+        ensures small { unsigned_abs result ≤ 50000000000000 }
     {
-        rounded_coordinate(coordinate, self.values.pulses, self.values.units)
+        rounded(i64::from(coordinate), self.values.pulses, self.values.units) as i64
     }
 
     /// The unit nearest to n pulses from zero.
@@ -66,7 +50,7 @@ impl MachineData {
     pub fn rate_of(&self, speed: u16) -> u64
         ensures { result ≡ rate_by (data_of self.now) speed }
     {
-        let per_minute = speed as u64 * self.values.measure.units_in() * 1_000;
-        per_minute * self.values.pulses as u64 / (60 * self.values.units as u64)
+        let per_minute = u64::from(speed) * self.values.measure.units_in() * 1_000;
+        per_minute * u64::from(self.values.pulses) / (60 * u64::from(self.values.units))
     }
 }

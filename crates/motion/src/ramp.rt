@@ -12,15 +12,16 @@ fn next(raw: &RawData, f: u32) -> u32
     requires upto { f ≤ raw.now.fm }
     ensures { result ≡ next_of raw.now.fs raw.now.fm raw.now.increase f }
 {
-    let h = 20 * (raw.fm - raw.fs) as u64;
+    let h = 20 * u64::from(raw.fm - raw.fs);
     if h == 0 {
         return raw.fm;
     }
-    let rise = raw.increase as u64 * (h - 19 * (f - raw.fs) as u64) / h;
-    (f as u64 + rise).min(raw.fm as u64) as u32
+    let rise = u64::from(raw.increase) * (h - 19 * u64::from(f - raw.fs)) / h;
+    (u64::from(f) + rise).min(u64::from(raw.fm)) as u32
 }
 
 // The first 4,096 steps of the ramp; past its end they stay at the maximum frequency.
+#[tactic(auto, using(crate::proofs::Rising::steps))]
 pub(crate) fn first_steps(raw: &RawData) -> [u32; 4096]
     requires fit { Frequencies raw.now }
     requires ordered { Ordered raw.now }
@@ -28,8 +29,8 @@ pub(crate) fn first_steps(raw: &RawData) -> [u32; 4096]
 {
     let mut steps = [0; 4096];
     let mut f = raw.fs;
-    for i in 0..4096 {
-        steps[i] = f;
+    for step in &mut steps {
+        *step = f;
         f = next(raw, f);
     }
     steps

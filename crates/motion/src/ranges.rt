@@ -7,70 +7,48 @@ use crate::raw::RawData;
 // The greatest coordinate, in units, to either side of zero.
 const REACH: i32 = 40_000_000;
 
-fn is_within(least: u32, greatest: u32, x: u32) -> bool
-    ensures value { result ≡ within least greatest x }
-    ensures means { Decides result (Within least greatest x) }
-{
-    least <= x && x <= greatest
-}
-
 fn is_reachable(c: i32) -> bool
-    ensures value { result ≡ reachable c }
-    ensures means { Decides result (Reachable c) }
+    ensures { result ≡ reachable c }
 {
-    -REACH <= c && c <= REACH
-}
-
-fn are_reachable(c: i32, e: i32) -> bool
-    ensures value { result ≡ (reachable c && reachable e) }
-    ensures means { Decides result (Reachable c × Reachable e) }
-{
-    is_reachable(c) && is_reachable(e)
+    (-REACH..=REACH).contains(&c)
 }
 
 impl RawData {
     fn frequencies_fit(&self) -> bool
-        ensures value { result ≡ frequencies self.now }
-        ensures means { Decides result (Frequencies self.now) }
+        ensures { result ≡ frequencies self.now }
     {
-        is_within(40_000, 100_000_000, self.fm)
-            && is_within(1_000, 10_000_000, self.fs)
-            && is_within(20, 2_599_999, self.increase)
+        (40_000..=100_000_000).contains(&self.fm)
+            && (1_000..=10_000_000).contains(&self.fs)
+            && (20..=2_599_999).contains(&self.increase)
     }
 
     fn signal_fits(&self) -> bool
-        ensures value { result ≡ signal self.now }
-        ensures means { Decides result (Signal self.now) }
+        ensures { result ≡ signal self.now }
     {
-        is_within(1, 31, self.duration) && is_within(4, 40, self.patterns)
+        (1..=31).contains(&self.duration) && (4..=40).contains(&self.patterns)
     }
 
     fn gear_fits(&self) -> bool
-        ensures value { result ≡ gear self.now }
-        ensures means { Decides result (Gear self.now) }
+        ensures { result ≡ gear self.now }
     {
-        is_within(1, 1_000_000, self.units) && is_within(1, 10_000, self.pulses)
+        (1..=1_000_000).contains(&self.units) && (1..=10_000).contains(&self.pulses)
     }
 
     fn limits_fit(&self) -> bool
-        ensures value { result ≡ limits self.now }
-        ensures means { Decides result (Limits self.now) }
+        ensures { result ≡ limits self.now }
     {
-        are_reachable(self.low, self.high) && is_reachable(self.reference)
+        is_reachable(self.low) && is_reachable(self.high) && is_reachable(self.reference)
     }
 
     fn offsets_fit(&self) -> bool
-        ensures value { result ≡ offsets self.now }
-        ensures means { Decides result (Offsets self.now) }
+        ensures { result ≡ offsets self.now }
     {
-        let [first, second, third, fourth] = self.offsets;
-        are_reachable(first, second) && are_reachable(third, fourth)
+        self.offsets.iter().all(|&offset| is_reachable(offset))
     }
 
     // Each datum is in its range.
     pub(crate) fn is_in_range(&self) -> bool
-        ensures value { result ≡ in_range self.now }
-        ensures means { Decides result (InRange self.now) }
+        ensures { result ≡ in_range self.now }
     {
         self.frequencies_fit()
             && self.signal_fits()

@@ -3,7 +3,7 @@
 
 #[cfg(test)]
 mod tests {
-    use motion::{DataFault, MachineData, Mover, RawData};
+    use motion::{DataFault, MachineData, Mover, Passed, RawData};
     use std::test::Fail;
     use units::Measure;
 
@@ -24,7 +24,7 @@ mod tests {
 
     // The number of the fault of machine data, 0 where they are taken.
     fn answer(raw: RawData) -> u8 {
-        match MachineData::checked(raw) {
+        match MachineData::try_from(raw) {
             Ok(_) => 0,
             Err(fault) => fault.number(),
         }
@@ -372,7 +372,7 @@ mod tests {
             ),
         ];
         for (units, pulses, coordinate, of_coordinate, n, nearest) in table {
-            let machine = MachineData::checked(RawData {
+            let machine = MachineData::try_from(RawData {
                 units,
                 pulses,
                 ..AXIS
@@ -385,7 +385,7 @@ mod tests {
 
     #[test]
     fn held_coordinates(rt: HostRuntime) -> Result<(), Fail> {
-        let machine = MachineData::checked(AXIS)?;
+        let machine = MachineData::try_from(AXIS)?;
         // pulses from zero, start, target, coordinate
         let table = [
             (8, 0, 100, 80),
@@ -428,7 +428,7 @@ mod tests {
             (Measure::Millimetre, 7, 3, 11, 78_571),
         ];
         for (measure, units, pulses, speed, rate) in table {
-            let machine = MachineData::checked(RawData {
+            let machine = MachineData::try_from(RawData {
                 measure,
                 units,
                 pulses,
@@ -482,7 +482,7 @@ mod tests {
             (40_000, 18_055, 20, 40_000, 300, 8_650, 300),
         ];
         for (fm, fs, increase, rate, distance, ticks, pulses) in table {
-            let mut mover = Mover::new(MachineData::checked(RawData {
+            let mut mover = Mover::new(MachineData::try_from(RawData {
                 fm,
                 fs,
                 increase,
@@ -501,16 +501,18 @@ mod tests {
     }
 
     // What three ticks and then three braking ticks of the axis send.
-    fn stopped(rate: u32, distance: i64) -> Result<[u64; 6], DataFault> {
-        let mut mover = Mover::new(MachineData::checked(AXIS)?);
+    fn stopped(rate: u64, distance: i64) -> Result<[u64; 6], DataFault> {
+        let mut mover = Mover::new(MachineData::try_from(AXIS)?);
         mover.begin(rate, distance);
-        let a = mover.tick();
-        let b = mover.tick();
-        let c = mover.tick();
-        let d = mover.brake();
-        let e = mover.brake();
-        let f = mover.brake();
-        Ok([a.pulses, b.pulses, c.pulses, d.pulses, e.pulses, f.pulses])
+        let passed = [
+            mover.tick(),
+            mover.tick(),
+            mover.tick(),
+            mover.brake(),
+            mover.brake(),
+            mover.brake(),
+        ];
+        Ok(passed.map(|passed| passed.pulses))
     }
 
     #[test]
@@ -526,10 +528,13 @@ mod tests {
             [1, 2, 2, 2, 1, 0]
         );
         // without a move the first braking tick stands
-        let mut mover = Mover::new(MachineData::checked(AXIS)?);
-        let passed = mover.brake();
-        assert_eq!(rt; passed.pulses, 0);
-        assert!(rt; passed.ended);
+        let mut mover = Mover::new(MachineData::try_from(AXIS)?);
+        let standing = Passed {
+            pulses: 0,
+            ended: true,
+        };
+        assert_eq!(rt; mover.brake(), standing);
+        assert_eq!(rt; Passed::STANDING, standing);
         mover.begin(3_000_000, 10);
         assert_eq!(rt; mover.step(), 0);
         assert!(rt; mover.brake().ended);

@@ -31,9 +31,6 @@ impl Measure {
         ensures value { result ≡ units_in self }
         ensures law { UnitsByPlaces }
     {
-        match self {
-            Measure::Inch => 10_000,
-            Measure::Millimetre | Measure::Degree => 1_000,
-        }
+        10u64.pow(self.places() as u32)
     }
 }

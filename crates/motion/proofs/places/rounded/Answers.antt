@@ -1,30 +1,20 @@
-use Rattle.std.proofs.Common.{◌*◌, ℤ, pos, ◌+ℤ◌, ap, ◌∙◌, arith, rules}
+use Rattle.std.proofs.Common.{◌≡◌, ◌^◌, ◌≤◌, ◌*ℤ◌, ◌+ℤ◌, pos, nat_abs, ◌∙◌, rules, arith, SFits, to_z, of_z}
 use mir.Syntax.{w128}
 use Rattle.std.proofs.lemmas.Int.{ints, to_z-of_z}
-use Rattle.motion.proofs.Ints.{code_is, product_parts, product_bound, doubled_is, quotient}
+use Rattle.motion.proofs.Ints.{quotient, product_bound}
 use Rattle.motion.proofs.places.rounded.Goals as goal
-
-pub overflow_mul-doubled-2 : goal.overflow_mul-doubled-2
-overflow_mul-doubled-2 c =
-    omega (
-      arith,
-      ints,
-      code_is c.args.z c.args.k c.ranges.z (omega arith),
-      product_parts c.args.z (2 * c.args.k),
-      product_bound c.args.z c.args.k c.ranges.z (omega arith),
-    )
-
-pub with_half-requires : goal.with_half-requires
-with_half-requires c =
-    let e = doubled_is c.args.z c.args.k c.ranges.z (omega arith) in
-    omega (arith, ints, product_parts c.args.z (2 * c.args.k), product_bound c.args.z c.args.k c.ranges.z (omega arith))
-
-pub div_euclid-requires : goal.div_euclid-requires
-div_euclid-requires c = record { nonzero = omega (arith, ints); no_overflow = λ e _. omega (arith, ints) }
 
 pub returns : goal.returns
 returns c =
-    let e = doubled_is c.args.z c.args.k c.ranges.z (omega arith) in
-    to_z-of_z w128 c.div_euclid.result (search rules) ∙ c.div_euclid.ensures
-    ∙ quotient c.args.z c.with_half.result c.args.k c.args.j (search rules)
-    (c.with_half.ensures ∙ ap (λ (u : ℤ). u +ℤ pos c.args.j) e) (omega arith)
+    let z = c.args.z in
+    let k = c.args.k in
+    let j = c.args.j in
+    let a : to_z w128 (of_z w128 c.from-z.result) ≡ z = omega (arith, ints) in
+    let b : to_z w128 (of_z w128 c.from-k.result) ≡ pos k = omega (arith, ints) in
+    let e : to_z w128 (of_z w128 c.from-j.result) ≡ pos j = omega (arith, ints) in
+    let l : nat_abs (z *ℤ (pos 2 *ℤ pos k)) ≤ 2 ^ 96 = product_bound z k c.ranges.z (omega arith) in
+    let p : SFits w128 (pos 2 *ℤ pos k) = omega (arith, ints) in
+    let q : SFits w128 (z *ℤ (pos 2 *ℤ pos k)) = omega (arith, ints) in
+    let r : SFits w128 (z *ℤ (pos 2 *ℤ pos k) +ℤ pos j) = omega (arith, ints) in
+    let s : SFits w128 (pos 2 *ℤ pos j) = omega (arith, ints) in
+    to_z-of_z w128 c.div_euclid.result (search rules) ∙ (simp (a, b, e, to_z-of_z) at c.div_euclid.ensures) ∙ quotient z k j

@@ -1,23 +1,28 @@
-use Rattle.std.proofs.Common.{◌≡◌, ℕ, suc, ◌-◌, ◌<◌, ◌≤◌, min, get_or, sym, ap, ◌∙◌, ⊎_elim, arith}
+use Rattle.std.proofs.Common.{◌≡◌, ℕ, suc, ◌-◌, ◌<◌, ◌≤◌, get_or, length, Option, unwrap_or, sym, ap, ◌∙◌, ⊎_elim, rules, arith}
 use Rattle.std.proofs.lemmas.Bool.{cases_lt}
-use Rattle.motion.specs.Ramp.{ramp_of, after_first}
+use Rattle.std.proofs.lemmas.List.{get_or_default, get_or_past}
+use Rattle.motion.specs.Ramp.{after_first}
 use Rattle.motion.specs.declared.machine.MachineData.{MachineData}
 use Rattle.motion.proofs.Curve.{past}
 use Rattle.motion.proofs.machine.MachineData.frequency.Goals as goal
 
--- the table at a place
-at_place : (m : MachineData) (k : ℕ) → k < 4096 → get_or m.table k 0 ≡ after_first m.values.fs m.values.fm m.values.increase k
-at_place m k h = let e : suc k - 1 ≡ k = omega arith in rw e at (m.ramp (suc k) (omega arith) (omega arith))
-
-reads : (m : MachineData) (step place : ℕ) → place ≡ min (step - 1) 4095 → get_or m.table place 0 ≡ ramp_of m.values step
-reads m step place e =
-    at_place m place (omega arith)
-    ∙ ⊎_elim
-    (λ (h : step - 1 < 4095). let i : place ≡ step - 1 = omega arith in ap (after_first m.values.fs m.values.fm m.values.increase) i)
-    (λ (h : 4095 ≤ step - 1). let i : place ≡ 4095 = omega arith in
-    ap (after_first m.values.fs m.values.fm m.values.increase) i ∙ m.short
-    ∙ sym (past m.values.fs m.values.fm m.values.increase 4095 (step - 1) m.short h))
-    (cases_lt (step - 1) 4095)
+-- the table at a place, and the maximum past its end
+reads : (m : MachineData) (place : ℕ) → length m.table ≡ 4096 → get_or m.table place m.values.fm ≡ after_first m.values.fs m.values.fm m.values.increase place
+reads m place n =
+    ⊎_elim
+    (λ (h : place < 4096).
+    let l : place < length m.table = omega arith in
+    let e : suc place - 1 ≡ place = omega arith in
+    get_or_default m.table place m.values.fm 0 l ∙ (rw e at (m.ramp (suc place) (omega arith) (omega arith))))
+    (λ (h : 4096 ≤ place).
+    let l : length m.table ≤ place = omega arith in
+    get_or_past m.table place m.values.fm l ∙ sym (past m.values.fs m.values.fm m.values.increase 4095 place m.short (omega arith)))
+    (cases_lt place 4096)
 
 pub returns : goal.returns
-returns c = reads c.args.self.now c.args.step c.place_of.result c.place_of.ensures
+returns c =
+    let m = c.args.self.now in
+    let p = c.saturating_sub-index.result in
+    c.unwrap_or.ensures ∙ ap (λ (o : Option ℕ). unwrap_or o m.values.fm) c.copied.ensures
+    ∙ c.get.ensures.lookup.4 (omega arith) m.values.fm ∙ reads m p (search rules)
+    ∙ ap (after_first m.values.fs m.values.fm m.values.increase) c.saturating_sub-index.ensures

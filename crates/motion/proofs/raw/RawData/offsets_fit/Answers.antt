@@ -1,18 +1,27 @@
-use Rattle.std.proofs.Common.{get_or, pos, w32, SFits, rules}
-use Rattle.std.proofs.lemmas.Int.{to_z-of_z}
-use Rattle.motion.proofs.Both.{both_value, both_means}
+use Rattle.std.proofs.Common.{◌≡◌, ◌∙◌, Bool, true, false, ◌&&◌, ℤ, pos, List, [], ◌∷◌, length, get_or, refl, rules, tests, arith}
+use Rattle.std.specs.List.{list_all}
+use Rattle.std.proofs.lemmas.Iterator.{YieldsList-from_slice}
+use Rattle.std.proofs.lemmas.Iterator.Search.{all_from_yields_List}
+use Rattle.motion.specs.Questions.{reachable}
 use Rattle.motion.proofs.raw.RawData.offsets_fit.Goals as goal
 
-pub returns-then-are_reachable : goal.returns-then-are_reachable
-returns-then-are_reachable c =
-    let o = c.args.self.now.offsets in
-    let f : SFits w32 (get_or o 0 (pos 0)) = search rules in
-    let g : SFits w32 (get_or o 1 (pos 0)) = search rules in
-    let h : SFits w32 (get_or o 2 (pos 0)) = search rules in
-    let i : SFits w32 (get_or o 3 (pos 0)) = search rules in
-    record {
-      value = both_value c.are_reachable.result c.are_reachable-then-are_reachable.result _ _ c.if-are_reachable.true
-          (simp to_z-of_z at c.are_reachable.ensures.value) (simp to_z-of_z at c.are_reachable-then-are_reachable.ensures.value);
-      means = both_means c.are_reachable.result c.are_reachable-then-are_reachable.result c.if-are_reachable.true
-          (simp to_z-of_z at c.are_reachable.ensures.means) (simp to_z-of_z at c.are_reachable-then-are_reachable.ensures.means);
-    }
+pairs : (a b c d : Bool) → (a && (b && (c && (d && true)))) ≡ ((a && b) && (c && d))
+pairs false b c d = refl
+pairs true false c d = refl
+pairs true true false d = refl
+pairs true true true false = refl
+pairs true true true true = refl
+
+all_of_four : (xs : List ℤ) → length xs ≡ 4
+    → list_all reachable xs ≡ ((reachable (get_or xs 0 (pos 0)) && reachable (get_or xs 1 (pos 0))) && (reachable (get_or xs 2 (pos 0)) && reachable (get_or xs 3 (pos 0))))
+all_of_four [] e = absurd (omega arith)
+all_of_four (a ∷ []) e = absurd (omega arith)
+all_of_four (a ∷ b ∷ []) e = absurd (omega arith)
+all_of_four (a ∷ b ∷ c ∷ []) e = absurd (omega arith)
+all_of_four (a ∷ b ∷ c ∷ d ∷ []) e = pairs (reachable a) (reachable b) (reachable c) (reachable d)
+all_of_four (a ∷ b ∷ c ∷ d ∷ x ∷ xs) e = absurd (omega arith)
+
+pub returns : goal.returns
+returns c =
+    all_from_yields_List reachable _ _ _ c.all.ensures.ran (YieldsList-from_slice c.args.self.now.offsets (cc)) (λ x b q k. search (rules, tests))
+    ∙ all_of_four c.args.self.now.offsets (search rules)
