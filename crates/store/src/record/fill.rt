@@ -3,12 +3,10 @@ ghost use Rattle.reader.specs.declared.block.Block.{Block as Instruction};
 ghost use Rattle.store.specs.Programs.{program_of, begun, read, joined_to, line_reply, block_at};
 
 use crate::fault::StoreFault;
-use crate::record::Record;
+use crate::record::{MOST_BLOCKS, Record};
 use reader::{Block, LineFault, read_line};
 use std::alloc::{AllocError, Global};
 use units::Measure;
-
-const MOST_BLOCKS: usize = 64;
 
 impl Record {
     // A free record: the only place where room for blocks is taken.
@@ -43,7 +41,7 @@ impl Record {
     // What a line says to this program; a block only where there is room for it.
     fn reading(&self, line: &[u8]) -> Result<Option<Block>, LineFault>
         ensures value { result ≡ read (program_of self.now) line.now }
-        ensures room { (b : Instruction) → result ≡ Ok (Some b) → vec_len self.now.blocks < 64 }
+        ensures room { (b : Instruction) → result ≡ Ok (Some b) → vec_len self.now.blocks < MOST_BLOCKS }
     {
         read_line(line, self.measure, self.blocks.len())
     }
@@ -63,12 +61,8 @@ impl Record {
     // The block at an index from 0.
     pub(crate) fn block(&self, k: usize) -> Option<Block>
         ensures value { result ≡ block_at (program_of self.now).blocks k }
-        ensures within { (b : Instruction) → result ≡ Some b → k < 64 }
+        ensures within { (b : Instruction) → result ≡ Some b → k < MOST_BLOCKS }
     {
-        if k < self.blocks.len() {
-            Some(self.blocks[k])
-        } else {
-            None
-        }
+        self.blocks.get(k).copied()
     }
 }
