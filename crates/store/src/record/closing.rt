@@ -72,8 +72,5 @@ impl Modes {
 fn ends(block: &Block) -> bool
     ensures { result ≡ ends block.now }
 {
-    match block.auxiliary {
-        Some(2) | Some(30) => true,
-        _ => false,
-    }
+    matches!(block.auxiliary, Some(2 | 30))
 }

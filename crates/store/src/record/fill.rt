@@ -31,14 +31,14 @@ impl Record {
         ensures value { result ≡ line_reply (read (program_of self.old) line.now) }
         ensures after { program_of self.new ≡ joined_to (read (program_of self.old) line.now) (program_of self.old) }
     {
-        let said = self.reading(line)?;
-        if let Some(block) = said {
+        if let Some(block) = self.reading(line)? {
             self.blocks.push_reserved(block);
         }
         Ok(())
     }
 
     // What a line says to this program; a block only where there is room for it.
+    #[tactic(auto, unfolding(crate::specs::Programs::read))]
     fn reading(&self, line: &[u8]) -> Result<Option<Block>, LineFault>
         ensures value { result ≡ read (program_of self.now) line.now }
         ensures room { (b : Instruction) → result ≡ Ok (Some b) → vec_len self.now.blocks < MOST_BLOCKS }

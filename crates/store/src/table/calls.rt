@@ -74,7 +74,7 @@ impl Store {
         ensures value { result ≡ add_reply number line.now (store_of self.old) }
         ensures after { store_of self.new ≡ added number line.now (store_of self.old) }
     {
-        self.ask_open(number)?;
+        self.ask_entry(number)?;
         self.entry.as_mut().unwrap().add(line)
     }
 
@@ -83,7 +83,7 @@ impl Store {
         ensures value { result ≡ close_reply number (store_of self.old) }
         ensures after { store_of self.new ≡ closed number (store_of self.old) }
     {
-        self.ask_open(number)?;
+        self.ask_entry(number)?;
         let record = self.entry.take().unwrap();
         if !record.closable() {
             self.free.push_reserved(record);
@@ -98,7 +98,7 @@ impl Store {
         ensures value { result ≡ abandon_reply number (store_of self.old) }
         ensures after { store_of self.new ≡ abandoned number (store_of self.old) }
     {
-        self.ask_open(number)?;
+        self.ask_entry(number)?;
         let record = self.entry.take().unwrap();
         self.free.push_reserved(record);
         Ok(())
@@ -120,8 +120,8 @@ impl Store {
 
     fn ask_opening(&self, number: u8) -> Result<(), StoreFault>
         ensures value { result ≡ asked (first_no (open_questions number (store_of self.now))) }
-        ensures room { result ≡ Ok tt → vec_len self.now.stored < 16 }
-        ensures none { result ≡ Ok tt → self.now.entry ≡ None }
+        ensures room { result ≡ Ok tt → vec_len self.now.stored < MOST_PROGRAMS }
+        ensures no_entry { result ≡ Ok tt → self.now.entry ≡ None }
     {
         if number == 0 {
             return Err(StoreFault::OutOfRange(number));
@@ -139,7 +139,7 @@ impl Store {
     }
 
     // Whether the entry that a number names is the open one.
-    fn ask_open(&self, number: u8) -> Result<(), StoreFault>
+    fn ask_entry(&self, number: u8) -> Result<(), StoreFault>
         ensures value { result ≡ cond (open_one number (store_of self.now).entry) (Ok tt) (Err (NotOpen number)) }
         ensures open { result ≡ Ok tt → open_one number (store_of self.now).entry ≡ true }
     {

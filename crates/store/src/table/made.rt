@@ -25,8 +25,9 @@ impl Store {
     }
 }
 
+// As many free records as there are ever programs.
 fn free_records(heap: Global) -> Result<Vec<Record>, AllocError>
-    ensures { IfOk result (λ free. (vec_len free ≡ 16) × (16 ≤ vec_capacity free)) }
+    ensures { IfOk result (λ free. (vec_len free ≡ MOST_PROGRAMS) × (MOST_PROGRAMS ≤ vec_capacity free)) }
 {
     let mut free = Vec::with_capacity(heap, MOST_PROGRAMS)?;
     for _ in 0..MOST_PROGRAMS {
