@@ -9,6 +9,8 @@ use crate::fault::StoreFault;
 #[must_use]
 #[derive(Debug)]
 pub struct Entry {
+    // Named in the clauses of the calls, and no field for hosts: only an opening
+    // makes a token.
     pub(crate) number: u8,
 }
 
@@ -20,6 +22,7 @@ impl Entry {
         self.number
     }
 
+    // The end of a token whose entry is over.
     pub(crate) fn spend(self) {
         let Entry { number: _ } = self;
     }

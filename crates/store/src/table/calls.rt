@@ -118,6 +118,7 @@ impl Store {
         Ok(())
     }
 
+    // The questions of an opening, in their order.
     fn ask_opening(&self, number: u8) -> Result<(), StoreFault>
         ensures value { result ≡ asked (first_no (open_questions number (store_of self.now))) }
         ensures room { result ≡ Ok tt → vec_len self.now.stored < MOST_PROGRAMS }
@@ -138,7 +139,7 @@ impl Store {
         Ok(())
     }
 
-    // Whether the entry that a number names is the open one.
+    // The question of 30: whether the entry that a number names is the open one.
     fn ask_entry(&self, number: u8) -> Result<(), StoreFault>
         ensures value { result ≡ cond (open_one number (store_of self.now).entry) (Ok tt) (Err (NotOpen number)) }
         ensures open { result ≡ Ok tt → open_one number (store_of self.now).entry ≡ true }

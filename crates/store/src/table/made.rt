@@ -25,7 +25,8 @@ impl Store {
     }
 }
 
-// As many free records as there are ever programs.
+// As many free records as there are ever programs. Pushed one by one, since a
+// collected vector promises no capacity.
 fn free_records(heap: Global) -> Result<Vec<Record>, AllocError>
     ensures { IfOk result (λ free. (vec_len free ≡ MOST_PROGRAMS) × (MOST_PROGRAMS ≤ vec_capacity free)) }
 {
