@@ -1,19 +1,21 @@
 -- What every run of calls keeps: how the entry and each stored program came about.
-use Rattle.std.proofs.Common.{◌≡◌, ℕ, suc, ◌<◌, ◌≤◌, Bool, true, false, cond, not, eqb, ltb, leb, List, [], ◌∷◌, ◌++◌, length, is_some, Some, None, Ok, Err, Option, Result, sym, refl, ap, ◌∙◌, subst, append_assoc, arith}
+use Rattle.std.proofs.Common.{◌≡◌, ℕ, ◌<◌, ◌≤◌, Bool, true, false, eqb, List, [], ◌∷◌, ◌++◌, length, Some, None, Ok, Err, Option, Result, sym, refl, ap, ◌∙◌, subst, append_assoc, arith}
 use Rattle.std.specs.List.{AllByRecursion}
+use Rattle.std.proofs.lemmas.Option.{same_Some}
 use Rattle.std.proofs.lemmas.List.{append-nil, length_push}
-use Rattle.std.proofs.lemmas.Bool.{ltb-true, leb-false, eqb-true, eq-eqb}
+use Rattle.std.proofs.lemmas.Bool.Decides.{nat_tests}
+use Rattle.std.proofs.lemmas.Bool.{eqb-true, eq-eqb}
 use Rattle.units.specs.declared.Measure.{Measure}
 use Rattle.reader.specs.declared.block.Block.{Block}
 use Rattle.reader.specs.declared.fault.LineFault.{LineFault}
-use Rattle.reader.specs.declared.fault.LineFault.TheVariants.{TooLong, ProgramFull}
 use Rattle.store.specs.declared.fault.StoreFault.{StoreFault}
-use Rattle.store.specs.declared.fault.StoreFault.TheVariants.{OutOfRange, AlreadyStored, StoreFull, EntryOpen, NotOpen, NotClosable}
 use Rattle.store.specs.Programs.{Program, Programs, empty, found, without, begun, read, joined_to}
 use Rattle.store.specs.Closing.{closable}
-use Rattle.store.specs.Entry.{first_no, open_questions, token, opened, opened_unless, open_one, entered, added, added_to, close_reply_of, closed, closed_from, ended_with, end_reply, abandoned, deleted}
-use Rattle.store.proofs.Tables.{both}
-use Rattle.store.specs.Laws.{Call, opening, adding, closing, abandoning, deleting, step, run, after, said, accepted, given, given_by, Stays, Entering, Stored}
+use Rattle.store.specs.Entry.{first_no, open_questions, opened, open_one, entered, added, closed, abandoned, deleted}
+use Rattle.store.specs.Laws.{Call, opening, adding, closing, abandoning, deleting, step, run, after, said, given, given_by, Stays, Entering, Stored}
+
+abbrev pub both : List Program → Option Program → Programs
+both ps o = record { stored = ps; entry = o }
 
 -- every one of some programs
 all_push : (P : Program → Type 0) (ps : List Program) (q : Program) → AllByRecursion P ps → P q → AllByRecursion P (ps ++ q ∷ [])
@@ -26,20 +28,15 @@ all_map P Q f (p ∷ ps) a = (f p a.0, all_map P Q f ps a.1)
 
 all_without : (P : Program → Type 0) (n : ℕ) (ps : List Program) → AllByRecursion P ps → AllByRecursion P (without n ps)
 all_without P n [] a = tt
-all_without P n (p ∷ ps) a = elim (eqb p.number n) as (λ b. AllByRecursion P (cond b ps (p ∷ without n ps))) [ true ↦ a.1 | false ↦ (a.0, all_without P n ps a.1) ]
+all_without P n (p ∷ ps) a = let more : AllByRecursion P (without n ps) = all_without P n ps a.1 in grind arith
 
 pub all_found : (P : Program → Type 0) (n : ℕ) (ps : List Program) (p : Program) → AllByRecursion P ps → found n ps ≡ Some p → P p
-all_found P n [] p a e = let z : ◌≡◌ {A = ℕ} 0 1 = cc in absurd (omega arith)
-all_found P n (q ∷ ps) p a e =
-    (elim (eqb q.number n) as (λ b. cond b (Some q) (found n ps) ≡ Some p → P p) [
-      | true ↦ λ e. (let s : q ≡ p = cc in subst P s a.0)
-      | false ↦ λ e. all_found P n ps p a.1 e
-    ]) e
+all_found P n [] p a e = cc
+all_found P n (q ∷ ps) p a e = let more : found n ps ≡ Some p → P p = all_found P n ps p a.1 in grind arith
 
 length_without : (n : ℕ) (ps : List Program) → length (without n ps) ≤ length ps
 length_without n [] = omega arith
-length_without n (p ∷ ps) = let more : length (without n ps) ≤ length ps = length_without n ps in
-    elim (eqb p.number n) as (λ b. length (cond b ps (p ∷ without n ps)) ≤ suc (length ps)) [ true ↦ omega arith | false ↦ omega arith ]
+length_without n (p ∷ ps) = let more : length (without n ps) ≤ length ps = length_without n ps in grind arith
 
 -- runs one call longer
 run_append : (cs ds : List Call) (s : Programs) → run (cs ++ ds) s ≡ run ds (run cs s)
@@ -104,42 +101,29 @@ unchanged cs c h e g =
       );
     })
 
-never : {X : Type 0} → ◌≡◌ {A = ℕ} 0 1 → X
-never z = absurd (omega arith)
-
 -- opening
-third_yes : (x y z w : Bool) (e f g h : StoreFault) → first_no ((x, e) ∷ (y, f) ∷ (z, g) ∷ (w, h) ∷ []) ≡ None → z ≡ true
-third_yes true true true w e f g h q = refl
-third_yes true true false w e f g h q = let z : ◌≡◌ {A = ℕ} 0 1 = cc in never z
-third_yes true false z w e f g h q = let z : ◌≡◌ {A = ℕ} 0 1 = cc in never z
-third_yes false y z w e f g h q = let z : ◌≡◌ {A = ℕ} 0 1 = cc in never z
+has_room : (n : ℕ) (s : Programs) → first_no (open_questions n s) ≡ None → length s.stored < 16
+has_room n s e = grind (arith, nat_tests)
 
 open_step : (cs : List Call) (n : ℕ) (m : Measure) → Held cs (after cs) → (q : Option StoreFault) → first_no (open_questions n (after cs)) ≡ q → Held (cs ++ opening n m ∷ []) (opened n m (after cs))
-open_step cs n m h (Some f) e = unchanged cs (opening n m) h (ap (λ q. opened_unless q n m (after cs)) e) refl
+open_step cs n m h (Some f) e = unchanged cs (opening n m) h (cc) refl
 open_step cs n m h None e =
-    let room : length (after cs).stored < 16 = ltb-true (length (after cs).stored) 16 (third_yes (not (eqb n 0)) (not (is_some (found n (after cs).stored))) (ltb (length (after cs).stored) 16) (not (is_some (after cs).entry)) (OutOfRange n) (AlreadyStored n) (StoreFull n) (EntryOpen n) e) in
+    let room : length (after cs).stored < 16 = has_room n (after cs) e in
     let new : EntrySound (cs ++ opening n m ∷ []) (after cs).stored (begun n m) =
-    (record { before = cs; lines = []; calls = refl; opens = ap (λ q. token q n) e; stays = ap (λ q. open_one n (opened_unless q n m (after cs)).entry) e ∙ eq-eqb n n refl; blocks = refl }, omega arith, room) in
-    subst (Held (cs ++ opening n m ∷ [])) (sym (ap (λ q. opened_unless q n m (after cs)) e)) (record {
+    (record { before = cs; lines = []; calls = refl; opens = cc; stays = cc (eq-eqb n n refl); blocks = refl }, omega arith, room) in
+    subst (Held (cs ++ opening n m ∷ [])) (cc) (record {
       most = h.most;
       each = each_more cs (opening n m) (after cs).stored h.each;
-      entry = λ p q. let same : begun n m ≡ p = cc in subst (EntrySound (cs ++ opening n m ∷ []) (after cs).stored) same new;
+      entry = λ p q. subst (EntrySound (cs ++ opening n m ∷ []) (after cs).stored) (same_Some (begun n m) p q) new;
     })
 
 -- adding
-room_for : (x : Bool) (k : ℕ) (b : Bool) (rest : Result (Option Block) LineFault) (o : Option Block) → leb 64 k ≡ b → cond x (Err TooLong) (cond b (Err ProgramFull) rest) ≡ Ok o → k < 64
-room_for true k b rest o l e = let z : ◌≡◌ {A = ℕ} 0 1 = cc in never z
-room_for false k true rest o l e = let z : ◌≡◌ {A = ℕ} 0 1 = cc in never z
-room_for false k false rest o l e = leb-false 64 k l
-
 room : (p : Program) (line : List ℕ) (o : Option Block) → read p line ≡ Ok o → length p.blocks < 64
 unfolding read
-room p line o e = room_for (ltb 80 (length line)) (length p.blocks) (leb 64 (length p.blocks)) _ o refl e
+room p line o e = grind (arith, nat_tests)
 
 joined_number : (r : Result (Option Block) LineFault) (p : Program) → (joined_to r p).number ≡ p.number
-joined_number (Ok None) p = refl
-joined_number (Ok (Some b)) p = refl
-joined_number (Err e) p = refl
+joined_number r p = grind arith
 
 joined_entry : (cs : List Call) (n : ℕ) (line : List ℕ) (p : Program) (ps : List Program) → EntrySound cs ps p → (r : Result (Option Block) LineFault) → read p line ≡ r → given (adding n line) (after cs) ≡ said r
     → open_one p.number (step (adding n line) (after cs)).entry ≡ true → EntrySound (cs ++ adding n line ∷ []) ps (joined_to r p)
@@ -153,67 +137,67 @@ add_read : (cs : List Call) (n : ℕ) (line : List ℕ) (p : Program) → Held c
     → (r : Result (Option Block) LineFault) → read p line ≡ r → Held (cs ++ adding n line ∷ []) (added n line (after cs))
 add_read cs n line p h e b r er =
     let old : EntrySound cs (after cs).stored p = h.entry p e in
-    let becomes : added n line (after cs) ≡ entered (joined_to r p) (after cs) = ap (λ o. added_to o n line (after cs)) e ∙ ap (λ x. cond x (entered (joined_to (read p line) p) (after cs)) (after cs)) b ∙ ap (λ x. entered (joined_to x p) (after cs)) er in
-    let gives : given (adding n line) (after cs) ≡ said r = ap (λ o. accepted o n line) e ∙ ap (λ x. cond x (said (read p line)) []) b ∙ ap said er in
+    let becomes : added n line (after cs) ≡ entered (joined_to r p) (after cs) = cc in
+    let gives : given (adding n line) (after cs) ≡ said r = cc in
     let still : open_one p.number (added n line (after cs)).entry ≡ true = ap (λ z. open_one p.number z.entry) becomes ∙ eq-eqb (joined_to r p).number p.number (joined_number r p) in
     let new : EntrySound (cs ++ adding n line ∷ []) (after cs).stored (joined_to r p) = joined_entry cs n line p (after cs).stored old r er gives still in
     subst (Held (cs ++ adding n line ∷ [])) (sym becomes) (record {
       most = h.most;
       each = each_more cs (adding n line) (after cs).stored h.each;
-      entry = λ q eq. let same : joined_to r p ≡ q = cc in subst (EntrySound (cs ++ adding n line ∷ []) (after cs).stored) same new;
+      entry = λ q eq. subst (EntrySound (cs ++ adding n line ∷ []) (after cs).stored) (same_Some (joined_to r p) q eq) new;
     })
 
 add_open : (cs : List Call) (n : ℕ) (line : List ℕ) (p : Program) → Held cs (after cs) → (after cs).entry ≡ Some p → (b : Bool) → eqb p.number n ≡ b → Held (cs ++ adding n line ∷ []) (added n line (after cs))
 add_open cs n line p h e false b =
-    unchanged cs (adding n line) h (ap (λ o. added_to o n line (after cs)) e ∙ ap (λ x. cond x (entered (joined_to (read p line) p) (after cs)) (after cs)) b) (ap (λ o. accepted o n line) e ∙ ap (λ x. cond x (said (read p line)) []) b)
+    unchanged cs (adding n line) h (cc) (cc)
 add_open cs n line p h e true b = add_read cs n line p h e b (read p line) refl
 
 add_step : (cs : List Call) (n : ℕ) (line : List ℕ) → Held cs (after cs) → (o : Option Program) → (after cs).entry ≡ o → Held (cs ++ adding n line ∷ []) (added n line (after cs))
-add_step cs n line h None e = unchanged cs (adding n line) h (ap (λ o. added_to o n line (after cs)) e) (ap (λ o. accepted o n line) e)
+add_step cs n line h None e = unchanged cs (adding n line) h (cc) (cc)
 add_step cs n line h (Some p) e = add_open cs n line p h e (eqb p.number n) refl
 
 -- closing
 close_kept : (cs : List Call) (n : ℕ) (p : Program) → Held cs (after cs) → (after cs).entry ≡ Some p → eqb p.number n ≡ true → (k : Bool) → closable p.blocks ≡ k → Held (cs ++ closing n ∷ []) (closed n (after cs))
 close_kept cs n p h e b false k =
-    let becomes : closed n (after cs) ≡ both (after cs).stored None = ap (λ o. closed_from o n (after cs)) e ∙ ap (λ x. cond x (ended_with p (after cs)) (after cs)) b ∙ ap (λ x. both (cond x ((after cs).stored ++ p ∷ []) (after cs).stored) None) k in
+    let becomes : closed n (after cs) ≡ both (after cs).stored None = cc in
     subst (Held (cs ++ closing n ∷ [])) (sym becomes) (record {
       most = h.most;
       each = each_more cs (closing n) (after cs).stored h.each;
-      entry = λ q eq. let z : ◌≡◌ {A = ℕ} 0 1 = cc in never z;
+      entry = λ q eq. cc;
     })
 close_kept cs n p h e b true k =
     let old : EntrySound cs (after cs).stored p = h.entry p e in
-    let becomes : closed n (after cs) ≡ both ((after cs).stored ++ p ∷ []) None = ap (λ o. closed_from o n (after cs)) e ∙ ap (λ x. cond x (ended_with p (after cs)) (after cs)) b ∙ ap (λ x. both (cond x ((after cs).stored ++ p ∷ []) (after cs).stored) None) k in
+    let becomes : closed n (after cs) ≡ both ((after cs).stored ++ p ∷ []) None = cc in
     let new : Stored (cs ++ closing n ∷ []) p = record {
       front = cs;
       later = [];
       calls = ap (λ j. cs ++ closing j ∷ []) (sym (eqb-true p.number n b));
       entering = old.0;
-      closes = ap (λ o. close_reply_of o p.number) e ∙ ap (λ x. cond x (end_reply p p.number) (Err (NotOpen p.number))) (eq-eqb p.number p.number refl) ∙ ap (λ x. cond x (Ok tt) (Err (NotClosable p.number))) k;
+      closes = cc (eq-eqb p.number p.number refl);
     } in
     subst (Held (cs ++ closing n ∷ [])) (sym becomes) (record {
       most = omega (arith, length_push (after cs).stored p, old.2);
       each = all_push (Sound (cs ++ closing n ∷ [])) (after cs).stored p (each_more cs (closing n) (after cs).stored h.each) (new, k);
-      entry = λ q eq. let z : ◌≡◌ {A = ℕ} 0 1 = cc in never z;
+      entry = λ q eq. cc;
     })
 
 close_open : (cs : List Call) (n : ℕ) (p : Program) → Held cs (after cs) → (after cs).entry ≡ Some p → (b : Bool) → eqb p.number n ≡ b → Held (cs ++ closing n ∷ []) (closed n (after cs))
-close_open cs n p h e false b = unchanged cs (closing n) h (ap (λ o. closed_from o n (after cs)) e ∙ ap (λ x. cond x (ended_with p (after cs)) (after cs)) b) refl
+close_open cs n p h e false b = unchanged cs (closing n) h (cc) refl
 close_open cs n p h e true b = close_kept cs n p h e b (closable p.blocks) refl
 
 close_step : (cs : List Call) (n : ℕ) → Held cs (after cs) → (o : Option Program) → (after cs).entry ≡ o → Held (cs ++ closing n ∷ []) (closed n (after cs))
-close_step cs n h None e = unchanged cs (closing n) h (ap (λ o. closed_from o n (after cs)) e) refl
+close_step cs n h None e = unchanged cs (closing n) h (cc) refl
 close_step cs n h (Some p) e = close_open cs n p h e (eqb p.number n) refl
 
 -- abandoning, deleting
 abandon_step : (cs : List Call) (n : ℕ) → Held cs (after cs) → (b : Bool) → open_one n (after cs).entry ≡ b → Held (cs ++ abandoning n ∷ []) (abandoned n (after cs))
-abandon_step cs n h false b = unchanged cs (abandoning n) h (ap (λ x. cond x (both (after cs).stored None) (after cs)) b) refl
+abandon_step cs n h false b = unchanged cs (abandoning n) h (cc) refl
 abandon_step cs n h true b =
-    let becomes : abandoned n (after cs) ≡ both (after cs).stored None = ap (λ x. cond x (both (after cs).stored None) (after cs)) b in
+    let becomes : abandoned n (after cs) ≡ both (after cs).stored None = cc in
     subst (Held (cs ++ abandoning n ∷ [])) (sym becomes) (record {
       most = h.most;
       each = each_more cs (abandoning n) (after cs).stored h.each;
-      entry = λ q eq. let z : ◌≡◌ {A = ℕ} 0 1 = cc in never z;
+      entry = λ q eq. cc;
     })
 
 delete_step_lem : (cs : List Call) (n : ℕ) → Held cs (after cs) → Held (cs ++ deleting n ∷ []) (deleted n (after cs))
@@ -239,4 +223,4 @@ held_on cs (c ∷ ds) h =
     subst (λ z. Held z (after z)) (append_assoc cs (c ∷ []) ds) (held_on (cs ++ c ∷ []) ds (subst (Held (cs ++ c ∷ [])) (sym (run_append cs (c ∷ []) empty)) (held-step cs c h)))
 
 pub held : (cs : List Call) → Held cs (after cs)
-held cs = held_on [] cs (record { most = omega arith; each = tt; entry = λ p e. let z : ◌≡◌ {A = ℕ} 0 1 = cc in never z })
+held cs = held_on [] cs (record { most = omega arith; each = tt; entry = λ p e. cc })

@@ -1,4 +1,3 @@
 mod Tables
-mod Closings
 mod Histories
 mod Laws

@@ -1,7 +1,7 @@
 -- A small store: the stored programs, in the order of their closing, and the open entry.
-use Rattle.std.specs.Prelude.{◌≡◌, ℕ, ◌+◌, ◌<◌, Bool, cond, List, [], ◌∷◌, ◌++◌, map, length, take, drop, Some, None, Ok, Err, vec_items, Option, Result, ◌==◌, nat_lt, slice_index_or}
+use Rattle.std.specs.Prelude.{◌≡◌, ℕ, ◌<◌, cond, List, [], ◌∷◌, ◌++◌, map, length, Some, None, Ok, Err, vec_items, is_some, remove, true, Option, Result, ◌==◌, nat_lt, slice_index_or}
+use Rattle.std.specs.Option.{option_map}
 use Rattle.units.specs.declared.Measure.{Measure}
-use Rattle.units.specs.declared.Measure.TheVariants.{Millimetre}
 use Rattle.reader.specs.declared.block.Block.{Block}
 use Rattle.reader.specs.declared.fault.LineFault.{LineFault}
 use Rattle.reader.specs.Questions.{verdict}
@@ -9,7 +9,6 @@ use Rattle.reader.specs.Questions as reading
 use Rattle.store.specs.declared.fault.StoreFault.{StoreFault}
 use Rattle.store.specs.declared.fault.StoreFault.TheVariants.{Line}
 use Rattle.store.specs.declared.record.Record.{Record}
-use Rattle.store.specs.declared.table.Table.{Table}
 use Rattle.store.specs.declared.table.Store.{Store}
 
 pub record Program : Type 0 where
@@ -28,21 +27,12 @@ empty = record { stored = []; entry = None }
 abbrev pub begun : ℕ → Measure → Program
 begun n m = record { number = n; measure = m; blocks = [] }
 
-abbrev pub blank : Program
-blank = begun 0 Millimetre
-
--- what the code's table says: so many programs from the front are stored, and the next one is the entry, if one is open
+-- what the code holds
 abbrev pub program_of : Record → Program
 program_of r = record { number = r.number; measure = r.measure; blocks = vec_items r.blocks }
 
-abbrev pub programs_of : Table → List Program
-programs_of t = map program_of (vec_items t.records)
-
-abbrev pub in_table : ℕ → Bool → List Program → Programs
-in_table n entering ps = record { stored = take n ps; entry = cond entering (Some (slice_index_or ps n blank)) None }
-
 abbrev pub store_of : Store → Programs
-store_of s = in_table s.stored s.entering (programs_of s.table)
+store_of s = record { stored = map program_of (vec_items s.stored); entry = option_map program_of s.entry }
 
 -- the program of a number, and the programs without it
 abbrev pub found : ℕ → List Program → Option Program
@@ -53,10 +43,10 @@ abbrev pub without : ℕ → List Program → List Program
 without n [] = []
 without n (p ∷ ps) = cond (p.number == n) ps (p ∷ without n ps)
 
--- where the program of a number stands among the first k
-abbrev pub Placed : ℕ → ℕ → List Program → Option ℕ → Type 0
-Placed k n ps None = (found n ps ≡ None) × (without n ps ≡ ps)
-Placed k n ps (Some i) = (i < k) × (found n ps ≡ Some (slice_index_or ps i blank)) × (without n ps ≡ take i ps ++ drop (i + 1) ps)
+-- where the record of a number stands, and what its removal leaves
+abbrev pub Placed : ℕ → List Record → Option ℕ → Type 0
+Placed n rs None = (found n (map program_of rs) ≡ None) × (without n (map program_of rs) ≡ map program_of rs)
+Placed n rs (Some i) = (i < length rs) × (is_some (found n (map program_of rs)) ≡ true) × (without n (map program_of rs) ≡ map program_of (remove rs i))
 
 abbrev pub block_at : List Block → ℕ → Option Block
 block_at bs k = cond (nat_lt k (length bs)) (Some (slice_index_or bs k reading.empty)) None

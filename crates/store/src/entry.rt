@@ -1,10 +1,16 @@
 ghost use Rattle.std.specs.Prelude.{◌≡◌};
+ghost use Rattle.store.specs.Entry.{back};
+ghost use Rattle.store.specs.declared.entry.CloseRefusal.TheVariants.{NotThisOne, Ended};
 
 use crate::fault::StoreFault;
 
 /// The token of an open entry. It holds the program's number and is spent only
 /// by closing or abandoning: it cannot be copied or let go.
+#[must_use]
+#[derive(Debug)]
 pub struct Entry {
+    // Named in the clauses of the calls, and no field for hosts: only an opening
+    // makes a token.
     pub(crate) number: u8,
 }
 
@@ -15,18 +21,49 @@ impl Entry {
     {
         self.number
     }
+
+    // The end of a token whose entry is over.
+    pub(crate) fn spend(self) {
+        let Entry { number: _ } = self;
+    }
+
+    // The refusal of a call whose token is not that of the open entry.
+    pub(crate) fn handed_back(self) -> HandedBack
+        ensures { result ≡ back self }
+    {
+        let fault = StoreFault::NotOpen(self.number);
+        HandedBack { entry: self, fault }
+    }
 }
 
 /// A token whose entry is not the open one, given back to the host.
+#[derive(Debug)]
 pub struct HandedBack {
     pub entry: Entry,
     pub fault: StoreFault,
 }
 
 /// A closing that is refused.
+#[derive(Debug)]
 pub enum CloseRefusal {
     /// The entry is not the open one.
     NotThisOne(HandedBack),
     /// The entry is over and its lines are gone.
     Ended(StoreFault),
+}
+
+impl From<HandedBack> for CloseRefusal {
+    ghost from_gives = { λ back refusal. refusal ≡ NotThisOne back };
+
+    fn from(back: HandedBack) -> Self {
+        CloseRefusal::NotThisOne(back)
+    }
+}
+
+impl From<StoreFault> for CloseRefusal {
+    ghost from_gives = { λ fault refusal. refusal ≡ Ended fault };
+
+    fn from(fault: StoreFault) -> Self {
+        CloseRefusal::Ended(fault)
+    }
 }

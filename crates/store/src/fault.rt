@@ -67,6 +67,7 @@ impl StoreFault {
     }
 }
 
+// By hand: the clauses of the calls name the fault that a line's becomes.
 impl From<LineFault> for StoreFault {
     ghost from_gives = { λ e r. r ≡ Line e };
 

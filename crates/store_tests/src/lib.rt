@@ -17,15 +17,12 @@ mod tests {
         Delete(u8),
     }
 
-    // The number of a fault, 0 for none.
-    fn number_of(r: Result<(), StoreFault>) -> u8 {
-        match r {
-            Ok(()) => 0,
-            Err(fault) => fault.number(),
-        }
+    // The number of a fault.
+    fn number_of(r: Result<(), StoreFault>) -> Option<u8> {
+        r.err().map(|fault| fault.number())
     }
 
-    fn answer(store: &mut Store, act: Act) -> u8 {
+    fn answer(store: &mut Store, act: Act) -> Option<u8> {
         match act {
             Act::Open(number) => number_of(store.open_number(number, Measure::Millimetre)),
             Act::Add(number, line) => number_of(store.add_line(number, line)),
@@ -36,51 +33,51 @@ mod tests {
     }
 
     // Every number of the store and of a line, and what each leaves.
-    const CALLS: [(Act, u8); 44] = [
-        (Act::Delete(1), 14),
-        (Act::Open(0), 26),
-        (Act::Add(1, b"X1"), 30),
-        (Act::Close(1), 30),
-        (Act::Abandon(1), 30),
-        (Act::Open(1), 0),
-        (Act::Open(2), 29),
-        (Act::Open(1), 29),
-        (Act::Add(2, b"X1"), 30),
-        (Act::Close(2), 30),
-        (Act::Abandon(2), 30),
-        (Act::Add(1, b"%1"), 0),
-        (Act::Add(1, b"x1"), 32),
-        (Act::Add(1, b"X1 X2"), 33),
-        (Act::Add(1, b"F0"), 34),
-        (Act::Add(1, b""), 0),
-        (Act::Add(1, b"G01 X1 F100"), 0),
-        (Act::Add(1, b"%1"), 32),
-        (Act::Add(1, b"G00 X2"), 0),
-        (Act::Add(1, b"G01 X3 M30"), 0),
-        (Act::Close(1), 0),
-        (Act::Close(1), 30),
-        (Act::Open(1), 27),
-        (Act::Open(2), 0),
-        (Act::Delete(2), 14),
-        (Act::Close(2), 35),
-        (Act::Add(2, b"X1"), 30),
-        (Act::Open(2), 0),
-        (Act::Add(2, b"G01 X1 M02"), 0),
-        (Act::Close(2), 35),
-        (Act::Open(2), 0),
-        (Act::Add(2, b"X1 M30"), 0),
-        (Act::Add(2, b"X2 M30"), 0),
-        (Act::Close(2), 35),
-        (Act::Open(2), 0),
-        (Act::Add(2, b"X1"), 0),
-        (Act::Close(2), 35),
-        (Act::Open(2), 0),
-        (Act::Add(2, b"X1"), 0),
-        (Act::Abandon(2), 0),
-        (Act::Open(2), 0),
-        (Act::Add(2, b"M02"), 0),
-        (Act::Close(2), 0),
-        (Act::Delete(1), 0),
+    const CALLS: [(Act, Option<u8>); 44] = [
+        (Act::Delete(1), Some(14)),
+        (Act::Open(0), Some(26)),
+        (Act::Add(1, b"X1"), Some(30)),
+        (Act::Close(1), Some(30)),
+        (Act::Abandon(1), Some(30)),
+        (Act::Open(1), None),
+        (Act::Open(2), Some(29)),
+        (Act::Open(1), Some(29)),
+        (Act::Add(2, b"X1"), Some(30)),
+        (Act::Close(2), Some(30)),
+        (Act::Abandon(2), Some(30)),
+        (Act::Add(1, b"%1"), None),
+        (Act::Add(1, b"x1"), Some(32)),
+        (Act::Add(1, b"X1 X2"), Some(33)),
+        (Act::Add(1, b"F0"), Some(34)),
+        (Act::Add(1, b""), None),
+        (Act::Add(1, b"G01 X1 F100"), None),
+        (Act::Add(1, b"%1"), Some(32)),
+        (Act::Add(1, b"G00 X2"), None),
+        (Act::Add(1, b"G01 X3 M30"), None),
+        (Act::Close(1), None),
+        (Act::Close(1), Some(30)),
+        (Act::Open(1), Some(27)),
+        (Act::Open(2), None),
+        (Act::Delete(2), Some(14)),
+        (Act::Close(2), Some(35)),
+        (Act::Add(2, b"X1"), Some(30)),
+        (Act::Open(2), None),
+        (Act::Add(2, b"G01 X1 M02"), None),
+        (Act::Close(2), Some(35)),
+        (Act::Open(2), None),
+        (Act::Add(2, b"X1 M30"), None),
+        (Act::Add(2, b"X2 M30"), None),
+        (Act::Close(2), Some(35)),
+        (Act::Open(2), None),
+        (Act::Add(2, b"X1"), None),
+        (Act::Close(2), Some(35)),
+        (Act::Open(2), None),
+        (Act::Add(2, b"X1"), None),
+        (Act::Abandon(2), None),
+        (Act::Open(2), None),
+        (Act::Add(2, b"M02"), None),
+        (Act::Close(2), None),
+        (Act::Delete(1), None),
     ];
 
     #[test]
@@ -103,16 +100,16 @@ mod tests {
     fn sixteen_of_sixty_four(rt: HostRuntime) -> Result<(), Fail> {
         let mut store = Store::new(rt.alloc())?;
         for number in 1u8..17 {
-            assert_eq!(rt; number_of(store.open_number(number, Measure::Inch)), 0);
+            assert_eq!(rt; number_of(store.open_number(number, Measure::Inch)), None);
             for _ in 0..63 {
-                assert_eq!(rt; number_of(store.add_line(number, LINE)), 0);
+                assert_eq!(rt; number_of(store.add_line(number, LINE)), None);
             }
-            assert_eq!(rt; number_of(store.add_line(number, LAST)), 0);
-            assert_eq!(rt; number_of(store.add_line(number, LINE)), 31);
-            assert_eq!(rt; number_of(store.add_line(number, b"")), 31);
-            assert_eq!(rt; number_of(store.close_number(number)), 0);
+            assert_eq!(rt; number_of(store.add_line(number, LAST)), None);
+            assert_eq!(rt; number_of(store.add_line(number, LINE)), Some(31));
+            assert_eq!(rt; number_of(store.add_line(number, b"")), Some(31));
+            assert_eq!(rt; number_of(store.close_number(number)), None);
         }
-        assert_eq!(rt; number_of(store.open_number(17, Measure::Inch)), 28);
+        assert_eq!(rt; number_of(store.open_number(17, Measure::Inch)), Some(28));
         let line = read_line(LINE, Measure::Inch, 0)?;
         let last = read_line(LAST, Measure::Inch, 63)?;
         for number in 1u8..17 {
@@ -123,9 +120,9 @@ mod tests {
             assert_eq!(rt; store.block(number, 63), last);
             assert_eq!(rt; store.block(number, 64), None);
         }
-        assert_eq!(rt; number_of(store.delete(9)), 0);
-        assert_eq!(rt; number_of(store.open_number(17, Measure::Inch)), 0);
-        assert_eq!(rt; number_of(store.abandon_number(17)), 0);
+        assert_eq!(rt; number_of(store.delete(9)), None);
+        assert_eq!(rt; number_of(store.open_number(17, Measure::Inch)), None);
+        assert_eq!(rt; number_of(store.abandon_number(17)), None);
         Ok(())
     }
 }

@@ -1,4 +1,4 @@
-ghost use Rattle.std.specs.Prelude.{◌≡◌};
+ghost use Rattle.std.specs.Prelude.{◌≡◌, None, unwrap_or};
 ghost use Rattle.std.specs.Option.{option_or};
 ghost use Rattle.store.specs.Closing.{ends, fits_at, closable};
 ghost use Rattle.store.specs.Programs.{program_of};
@@ -19,44 +19,58 @@ impl Record {
 fn may_close(blocks: &[Block]) -> bool
     ensures { result ≡ closable blocks.now }
 {
-    let mut motion = Motion::Rapid;
-    let mut feed: Option<u16> = None;
-    for (i, block) in blocks.iter().enumerate() {
-        motion = block.motion.unwrap_or(motion);
-        feed = feed_after(block, feed);
-        if !fits(block, i + 1 == blocks.len(), motion, feed) {
+    let mut modes = Modes {
+        motion: Motion::Rapid,
+        feed: None,
+    };
+    let mut rest = blocks;
+    while let Some((block, later)) = rest.split_first() {
+        modes = modes.in_block(block);
+        if !modes.fit(block, later.is_empty()) {
             return false;
         }
+        rest = later;
     }
     !blocks.is_empty()
 }
 
-// A feed holds until the next one, whatever the motion group.
-fn feed_after(block: &Block, feed: Option<u16>) -> Option<u16>
-    ensures { result ≡ option_or block.now.feed feed }
-{
-    block.feed.or(feed)
+// The motion group and the feed that hold in a block.
+#[derive(Clone, Copy)]
+struct Modes {
+    motion: Motion,
+    feed: Option<u16>,
 }
 
-// Whether one block may stand there: the end in the last block and only there,
-// no X under G01 without a feed.
-fn fits(block: &Block, last: bool, motion: Motion, feed: Option<u16>) -> bool
-    ensures { result ≡ fits_at last motion feed block.now }
-{
-    if ends(block) != last {
-        return false;
+impl Modes {
+    // The block's own words, else what held before. A feed holds until the next
+    // one, whatever the motion group.
+    fn in_block(self, block: &Block) -> Modes
+        ensures motion { result.motion ≡ unwrap_or block.now.motion self.motion }
+        ensures feed { result.feed ≡ option_or block.now.feed self.feed }
+    {
+        Modes {
+            motion: block.motion.unwrap_or(self.motion),
+            feed: block.feed.or(self.feed),
+        }
     }
-    match motion {
-        Motion::Rapid => true,
-        Motion::Feed => block.target.is_none() || feed.is_some(),
+
+    // Whether one block may stand there: the end in the last block and only
+    // there, no X under G01 without a feed.
+    fn fit(self, block: &Block, last: bool) -> bool
+        ensures { result ≡ fits_at last self.motion self.feed block.now }
+    {
+        if ends(block) != last {
+            return false;
+        }
+        match self.motion {
+            Motion::Rapid => true,
+            Motion::Feed => block.target.is_none() || self.feed.is_some(),
+        }
     }
 }
 
 fn ends(block: &Block) -> bool
     ensures { result ≡ ends block.now }
 {
-    match block.auxiliary {
-        Some(2) | Some(30) => true,
-        _ => false,
-    }
+    matches!(block.auxiliary, Some(2 | 30))
 }

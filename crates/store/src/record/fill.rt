@@ -1,14 +1,12 @@
-ghost use Rattle.std.specs.Prelude.{◌≡◌, ◌<◌, Some, Ok, vec_len};
+ghost use Rattle.std.specs.Prelude.{◌≡◌, ◌<◌, Some};
 ghost use Rattle.reader.specs.declared.block.Block.{Block as Instruction};
 ghost use Rattle.store.specs.Programs.{program_of, begun, read, joined_to, line_reply, block_at};
 
 use crate::fault::StoreFault;
-use crate::record::Record;
-use reader::{Block, LineFault, read_line};
+use crate::record::{MOST_BLOCKS, Record};
+use reader::{Block, read_line};
 use std::alloc::{AllocError, Global};
 use units::Measure;
-
-const MOST_BLOCKS: usize = 64;
 
 impl Record {
     // A free record: the only place where room for blocks is taken.
@@ -29,23 +27,15 @@ impl Record {
     }
 
     // A line that is passed over adds nothing; nor does a refused one.
+    #[tactic(auto, unfolding(crate::specs::Programs::read))]
     pub(crate) fn add(&mut self, line: &[u8]) -> Result<(), StoreFault>
         ensures value { result ≡ line_reply (read (program_of self.old) line.now) }
         ensures after { program_of self.new ≡ joined_to (read (program_of self.old) line.now) (program_of self.old) }
     {
-        let said = self.reading(line)?;
-        if let Some(block) = said {
+        if let Some(block) = read_line(line, self.measure, self.blocks.len())? {
             self.blocks.push_reserved(block);
         }
         Ok(())
-    }
-
-    // What a line says to this program; a block only where there is room for it.
-    fn reading(&self, line: &[u8]) -> Result<Option<Block>, LineFault>
-        ensures value { result ≡ read (program_of self.now) line.now }
-        ensures room { (b : Instruction) → result ≡ Ok (Some b) → vec_len self.now.blocks < 64 }
-    {
-        read_line(line, self.measure, self.blocks.len())
     }
 
     pub(crate) fn number(&self) -> u8
@@ -63,12 +53,8 @@ impl Record {
     // The block at an index from 0.
     pub(crate) fn block(&self, k: usize) -> Option<Block>
         ensures value { result ≡ block_at (program_of self.now).blocks k }
-        ensures within { (b : Instruction) → result ≡ Some b → k < 64 }
+        ensures within { (b : Instruction) → result ≡ Some b → k < MOST_BLOCKS }
     {
-        if k < self.blocks.len() {
-            Some(self.blocks[k])
-        } else {
-            None
-        }
+        self.blocks.get(k).copied()
     }
 }

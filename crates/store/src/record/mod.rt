@@ -1,4 +1,5 @@
 ghost use Rattle.std.specs.Prelude.{◌≤◌, vec_len, vec_capacity};
+ghost use Rattle.store.specs.declared.record.TheConstants.{MOST_BLOCKS};
 
 use reader::Block;
 use units::Measure;
@@ -6,13 +7,15 @@ use units::Measure;
 mod closing;
 mod fill;
 
-/// One program's place in the table, with room for all its blocks from the
-/// beginning. Of a free record the fields mean nothing.
+const MOST_BLOCKS: usize = 64;
+
+/// The room of one program, with room for all its blocks from the beginning.
+/// Of a free record the fields mean nothing.
 #[derive(Drop)]
 pub(crate) struct Record {
     number: u8,
     measure: Measure,
     blocks: Vec<Block>,
-    ghost few: { vec_len blocks ≤ 64 },
-    ghost room: { 64 ≤ vec_capacity blocks },
+    ghost few: { vec_len blocks ≤ MOST_BLOCKS },
+    ghost room: { MOST_BLOCKS ≤ vec_capacity blocks },
 }

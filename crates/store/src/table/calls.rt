@@ -1,12 +1,15 @@
-ghost use Rattle.std.specs.Prelude.{◌≡◌, ◌+◌, ◌<◌, true, [], ◌∷◌, ◌++◌, length, take, drop, None, Ok, nat_lt, slice_index_or};
-ghost use Rattle.store.specs.Programs.{store_of, programs_of, begun, blank, read, joined_to, line_reply};
-ghost use Rattle.store.specs.Entry.{first_no, open_questions, asked, open_done, open_reply, opened, entered, open_one, add_reply, added, end_reply, ended_with, close_reply, closed, close_answer, abandon_reply, abandoned, abandon_answer, delete_reply, deleted};
+ghost use Rattle.std.specs.Prelude.{◌≡◌, ◌<◌, true, None, Ok, vec_len, cond, Err};
+ghost use Rattle.store.specs.Programs.{store_of};
+ghost use Rattle.store.specs.Entry.{first_no, open_questions, asked, open_done, open_reply, opened, open_one, add_reply, added, close_reply, closed, close_answer, abandon_reply, abandoned, abandon_answer, delete_reply, deleted};
+ghost use Rattle.store.specs.declared.fault.StoreFault.TheVariants.{NotOpen};
 
 use crate::entry::{CloseRefusal, Entry, HandedBack};
 use crate::fault::StoreFault;
 use crate::table::{MOST_PROGRAMS, Store};
 use units::Measure;
 
+// Each call on an entry stands twice, by token and by number: a token is spent
+// or handed back, a number is neither. The rules are in the calls by number.
 impl Store {
     /// Opens the entry of a program and gives its token.
     pub fn open(&mut self, number: u8, measure: Measure) -> Result<Entry, StoreFault>
@@ -31,14 +34,12 @@ impl Store {
         ensures value { result ≡ close_answer entry (store_of self.old) }
         ensures after { store_of self.new ≡ closed entry.number (store_of self.old) }
     {
-        if !self.is_open(entry.number) {
-            let fault = StoreFault::NotOpen(entry.number);
-            return Err(CloseRefusal::NotThisOne(HandedBack { entry, fault }));
-        }
-        let Entry { number } = entry;
-        match self.finish(number) {
-            Ok(()) => Ok(()),
-            Err(fault) => Err(CloseRefusal::Ended(fault)),
+        match self.close_number(entry.number) {
+            Err(StoreFault::NotOpen(_)) => Err(entry.handed_back().into()),
+            answer => {
+                entry.spend();
+                Ok(answer?)
+            }
         }
     }
 
@@ -47,12 +48,10 @@ impl Store {
         ensures value { result ≡ abandon_answer entry (store_of self.old) }
         ensures after { store_of self.new ≡ abandoned entry.number (store_of self.old) }
     {
-        if !self.is_open(entry.number) {
-            let fault = StoreFault::NotOpen(entry.number);
-            return Err(HandedBack { entry, fault });
+        if self.abandon_number(entry.number).is_err() {
+            return Err(entry.handed_back());
         }
-        let Entry { number: _ } = entry;
-        self.entering = false;
+        entry.spend();
         Ok(())
     }
 
@@ -63,7 +62,9 @@ impl Store {
         ensures after { store_of self.new ≡ opened number measure (store_of self.old) }
     {
         self.ask_opening(number)?;
-        self.begin(number, measure);
+        let mut record = self.free.pop().unwrap();
+        record.begin(number, measure);
+        self.entry = Some(record);
         Ok(())
     }
 
@@ -73,10 +74,8 @@ impl Store {
         ensures value { result ≡ add_reply number line.now (store_of self.old) }
         ensures after { store_of self.new ≡ added number line.now (store_of self.old) }
     {
-        if !self.is_open(number) {
-            return Err(StoreFault::NotOpen(number));
-        }
-        self.enter(line)
+        self.ask_entry(number)?;
+        self.entry.as_mut().unwrap().add(line)
     }
 
     /// Closes the entry that a number names.
@@ -84,10 +83,14 @@ impl Store {
         ensures value { result ≡ close_reply number (store_of self.old) }
         ensures after { store_of self.new ≡ closed number (store_of self.old) }
     {
-        if !self.is_open(number) {
-            return Err(StoreFault::NotOpen(number));
+        self.ask_entry(number)?;
+        let record = self.entry.take().unwrap();
+        if !record.closable() {
+            self.free.push_reserved(record);
+            return Err(StoreFault::NotClosable(number));
         }
-        self.finish(number)
+        self.stored.push_reserved(record);
+        Ok(())
     }
 
     /// Abandons the entry that a number names.
@@ -95,10 +98,9 @@ impl Store {
         ensures value { result ≡ abandon_reply number (store_of self.old) }
         ensures after { store_of self.new ≡ abandoned number (store_of self.old) }
     {
-        if !self.is_open(number) {
-            return Err(StoreFault::NotOpen(number));
-        }
-        self.entering = false;
+        self.ask_entry(number)?;
+        let record = self.entry.take().unwrap();
+        self.free.push_reserved(record);
         Ok(())
     }
 
@@ -111,90 +113,40 @@ impl Store {
         let Some(i) = self.position(number) else {
             return Err(StoreFault::NotStored(number));
         };
-        self.free(i);
+        let record = self.stored.remove(i);
+        self.free.push_reserved(record);
         Ok(())
     }
 
-    // Frees the record of a stored program.
-    fn free(&mut self, i: usize)
-        requires { i < self.old.stored }
-        ensures { store_of self.new ≡ record { stored = take i (store_of self.old).stored ++ drop (i + 1) (store_of self.old).stored; entry = (store_of self.old).entry } }
-    {
-        self.table.free(i);
-        self.stored -= 1;
-    }
-
+    // The questions of an opening, in their order.
     fn ask_opening(&self, number: u8) -> Result<(), StoreFault>
         ensures value { result ≡ asked (first_no (open_questions number (store_of self.now))) }
-        ensures room { result ≡ Ok tt → self.now.stored < 16 }
+        ensures room { result ≡ Ok tt → vec_len self.now.stored < MOST_PROGRAMS }
+        ensures no_entry { result ≡ Ok tt → self.now.entry ≡ None }
     {
         if number == 0 {
             return Err(StoreFault::OutOfRange(number));
         }
-        if self.position(number).is_some() {
+        if self.find(number).is_some() {
             return Err(StoreFault::AlreadyStored(number));
         }
-        if !self.has_room() {
+        if self.stored.len() >= MOST_PROGRAMS {
             return Err(StoreFault::StoreFull(number));
         }
-        if self.entering {
+        if self.entry.is_some() {
             return Err(StoreFault::EntryOpen(number));
         }
         Ok(())
     }
 
-    fn has_room(&self) -> bool
-        ensures value { result ≡ nat_lt (length (store_of self.now).stored) 16 }
-        ensures room { result ≡ true → self.now.stored < 16 }
+    // The question of 30: whether the entry that a number names is the open one.
+    fn ask_entry(&self, number: u8) -> Result<(), StoreFault>
+        ensures value { result ≡ cond (open_one number (store_of self.now).entry) (Ok tt) (Err (NotOpen number)) }
+        ensures open { result ≡ Ok tt → open_one number (store_of self.now).entry ≡ true }
     {
-        self.stored < MOST_PROGRAMS
-    }
-
-    // Opens an entry in the first free record.
-    fn begin(&mut self, number: u8, measure: Measure)
-        requires { self.old.stored < 16 }
-        ensures { store_of self.new ≡ entered (begun number measure) (store_of self.old) }
-    {
-        let at = self.stored;
-        self.table.slot_mut(at).begin(number, measure);
-        self.entering = true;
-    }
-
-    fn is_open(&self, number: u8) -> bool
-        ensures { result ≡ open_one number (store_of self.now).entry }
-    {
-        self.entering && self.table.slot(self.stored).number() == number
-    }
-
-    fn enter(&mut self, line: &[u8]) -> Result<(), StoreFault>
-        requires { self.old.entering ≡ true }
-        ensures value { result ≡ line_reply (read (slice_index_or (programs_of self.old.table) self.old.stored blank) line.now) }
-        ensures after { store_of self.new ≡ entered (joined_to (read (slice_index_or (programs_of self.old.table) self.old.stored blank) line.now) (slice_index_or (programs_of self.old.table) self.old.stored blank)) (store_of self.old) }
-    {
-        let at = self.stored;
-        self.table.slot_mut(at).add(line)
-    }
-
-    // Ends the entry: its record becomes a stored program's, or is free again.
-    fn finish(&mut self, number: u8) -> Result<(), StoreFault>
-        requires { self.old.entering ≡ true }
-        ensures value { result ≡ end_reply (slice_index_or (programs_of self.old.table) self.old.stored blank) number }
-        ensures after { store_of self.new ≡ ended_with (slice_index_or (programs_of self.old.table) self.old.stored blank) (store_of self.old) }
-    {
-        if !self.table.slot(self.stored).closable() {
-            self.entering = false;
-            return Err(StoreFault::NotClosable(number));
+        match &self.entry {
+            Some(record) if record.number() == number => Ok(()),
+            _ => Err(StoreFault::NotOpen(number)),
         }
-        self.keep();
-        Ok(())
-    }
-
-    // The entry's record becomes that of a stored program.
-    fn keep(&mut self)
-        requires { self.old.entering ≡ true }
-        ensures { store_of self.new ≡ record { stored = (store_of self.old).stored ++ slice_index_or (programs_of self.old.table) self.old.stored blank ∷ []; entry = None } }
-    {
-        self.entering = false;
-        self.stored += 1;
     }
 }

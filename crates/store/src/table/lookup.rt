@@ -1,6 +1,7 @@
-ghost use Rattle.std.specs.Prelude.{◌≡◌, ◌<◌, map, length, Some, slice_index_or};
+ghost use Rattle.std.specs.Prelude.{◌≡◌, ◌<◌};
+ghost use Rattle.std.specs.Option.{option_copied, option_map};
 ghost use Rattle.reader.specs.declared.block.Block.{Block as Instruction};
-ghost use Rattle.store.specs.Programs.{program_of, store_of, blank, found, Placed, measure_in, block_in};
+ghost use Rattle.store.specs.Programs.{program_of, store_of, found, Placed, measure_in, block_in};
 
 use crate::record::Record;
 use crate::table::Store;
@@ -12,8 +13,7 @@ impl Store {
     pub fn measure_of(&self, number: u8) -> Option<Measure>
         ensures { result ≡ measure_in (found number (store_of self.now).stored) }
     {
-        let i = self.position(number)?;
-        Some(self.program(i).measure())
+        Some(self.find(number)?.measure())
     }
 
     /// The block of a stored program at an index from 0.
@@ -21,32 +21,22 @@ impl Store {
         ensures value { result ≡ block_in (found number (store_of self.now).stored) k }
         ensures within { (b : Instruction) → result ≡ Some b → k < 64 }
     {
-        let i = self.position(number)?;
-        self.program(i).block(k)
+        self.find(number)?.block(k)
     }
 
-    fn program(&self, i: usize) -> &Record
-        requires { i < self.now.stored }
-        ensures { program_of result.now ≡ slice_index_or (store_of self.now).stored i blank }
+    // The record of a stored program.
+    pub(super) fn find(&self, number: u8) -> Option<&Record>
+        ensures { option_map program_of (option_copied result) ≡ found number (store_of self.now).stored }
     {
-        self.table.slot(i)
+        self.stored.iter().find(|record| record.number() == number)
     }
 
-    // Where a stored program stands in the table.
+    // Where the record of a stored program stands.
     pub(super) fn position(&self, number: u8) -> Option<usize>
-        ensures { Placed self.now.stored number (store_of self.now).stored result }
+        ensures { Placed number self.now.stored.items result }
     {
-        position_in(self.table.front(self.stored), number)
+        self.stored
+            .iter()
+            .position(|record| record.number() == number)
     }
-}
-
-fn position_in(records: &[Record], number: u8) -> Option<usize>
-    ensures { Placed (length records.now) number (map program_of records.now) result }
-{
-    for (i, record) in records.iter().enumerate() {
-        if record.number() == number {
-            return Some(i);
-        }
-    }
-    None
 }

@@ -1,29 +1,22 @@
-ghost use Rattle.std.specs.Prelude.{◌≡◌, ◌+◌, ◌≤◌, if◌then◌else◌, vec_len, vec_capacity};
+ghost use Rattle.std.specs.Prelude.{◌≡◌, ◌+◌, ◌≤◌, if◌then◌else◌, is_some, vec_len, vec_capacity};
+ghost use Rattle.store.specs.declared.table.TheConstants.{MOST_PROGRAMS};
 
 use crate::record::Record;
 
 mod calls;
 mod lookup;
 mod made;
-mod slots;
 
 const MOST_PROGRAMS: usize = 16;
 
-// The records of the programs: those stored first, then the open entry's, then
-// free ones.
-#[derive(Drop)]
-struct Table {
-    records: Vec<Record>,
-}
-
 /// The programs and the open entry, if any. All its memory is taken when it is
-/// made.
+/// made: each record is a stored program's, the open entry's or free.
 #[derive(Drop)]
 pub struct Store {
-    table: Table,
-    stored: usize,
-    entering: bool,
-    ghost sixteen: { vec_len table.records ≡ 16 },
-    ghost reserved: { 16 ≤ vec_capacity table.records },
-    ghost fits: { stored + (if entering then 1 else 0) ≤ 16 },
+    stored: Vec<Record>,
+    entry: Option<Record>,
+    free: Vec<Record>,
+    ghost sixteen: { vec_len stored + (if is_some entry then 1 else 0) + vec_len free ≡ MOST_PROGRAMS },
+    ghost stored_room: { MOST_PROGRAMS ≤ vec_capacity stored },
+    ghost free_room: { MOST_PROGRAMS ≤ vec_capacity free },
 }

@@ -1,11 +1,13 @@
-use Rattle.std.proofs.Common.{◌≡◌, length, sym, ap, ◌∙◌, subst}
-use Rattle.std.proofs.lemmas.List.{length-map}
-use Rattle.store.specs.Programs.{program_of, store_of, Placed}
-use Rattle.store.proofs.Tables.{stored-length}
+use Rattle.std.proofs.Common.{◌≡◌, vec_items, sym, subst, rules}
+use Rattle.std.specs.List.{position}
+use Rattle.std.proofs.lemmas.Iterator.{YieldsList-from_slice}
+use Rattle.std.proofs.lemmas.Iterator.Search.{position_from_yields_List}
+use borrow.Author.Tests.{tests}
+use Rattle.store.specs.Programs.{Placed}
+use Rattle.store.proofs.Tables.{named, placed}
 use Rattle.store.proofs.table.Store.position.Goals as goal
 
 pub returns : goal.returns
 returns c =
-    let n : length c.front.result.now ≡ c.args.self.now.stored = sym (length-map c.front.result.now program_of) ∙ ap length c.front.ensures ∙ stored-length c.args.self.now in
-    subst (λ k. Placed k c.args.number (store_of c.args.self.now).stored c.position_in.result) n
-    (subst (λ ps. Placed (length c.front.result.now) c.args.number ps c.position_in.result) c.front.ensures c.position_in.ensures)
+    let e : c.position.result ≡ position (named c.args.number) (vec_items c.args.self.now.stored) = position_from_yields_List (named c.args.number) _ _ c.position.result c.position.ensures.ran (YieldsList-from_slice (vec_items c.args.self.now.stored) cc) (λ x b q k. search (rules, tests)) in
+    subst (Placed c.args.number (vec_items c.args.self.now.stored)) (sym e) (placed c.args.number (vec_items c.args.self.now.stored))
