@@ -16,6 +16,10 @@ use Rattle.states.specs.Effects.{fault_at}
 abbrev pub cleared : ℤ → Work → Work
 cleared zero w = record { mode = 4; auxiliary = 2; fault = w.fault; offset = pos 0; tool = pos 0; coordinate = pos 0; zero = zero; referenced = false; in_position = false; phase = standing }
 
+-- a new axis: all as after a deletion, no fault and the count at zero 0
+abbrev pub new_work : Work
+new_work = record { mode = 4; auxiliary = 2; fault = None; offset = pos 0; tool = pos 0; coordinate = pos 0; zero = pos 0; referenced = false; in_position = false; phase = standing }
+
 abbrev pub with_data : Option RawData → Work → Status → Status
 with_data machine w s = record { begin = s.begin; end = s.end; machine = machine; work = w }
 

@@ -1,3 +1,4 @@
+pub mod Mode
 pub mod Faults
 pub mod State
 pub mod View

@@ -10,7 +10,6 @@ use crate::fault::{AxisFault, Cause};
 use crate::reading::Reading;
 use crate::record::Record;
 use crate::state::State;
-use crate::working::Working;
 use motion::{MachineData, Mover, RawData};
 
 impl State {
@@ -19,22 +18,6 @@ impl State {
         ensures { (g : Going) → result ≡ stands (phase_of g self.now) }
     {
         matches!(self, State::Standing | State::Held(_))
-    }
-}
-
-impl Working {
-    // All but the fault and the count at zero as on a new axis.
-    fn clear(&mut self)
-        ensures { (g : Going) → work_of g self.new ≡ cleared self.old.zero (work_of g self.old) }
-    {
-        self.mode = 4;
-        self.auxiliary = 2;
-        self.offset = 0;
-        self.tool = 0;
-        self.coordinate = 0;
-        self.referenced = false;
-        self.in_position = false;
-        self.state = State::Standing;
     }
 }
 
