@@ -1,4 +1,4 @@
-pub mod Tasks
+pub mod Modes
 pub mod Questions
 pub mod Effects
 pub mod Orders

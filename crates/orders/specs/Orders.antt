@@ -1,5 +1,5 @@
 -- An order: what it is answered, and what it leaves.
-use Rattle.std.specs.Prelude.{Bool, cond, ◌&&◌, ◌||◌, Ok, Err, Result, ◌==◌}
+use Rattle.std.specs.Prelude.{◌≡◌, Bool, cond, ◌&&◌, ◌||◌, Ok, Err, Result, ◌==◌}
 use Rattle.drives.specs.Meaning.{Meaning}
 use Rattle.store.specs.Programs.{Programs}
 use Rattle.states.specs.declared.order.Order.{Order}
@@ -8,8 +8,10 @@ use Rattle.states.specs.declared.fault.AxisFault.{AxisFault}
 use Rattle.states.specs.Faults.{cause_number}
 use Rattle.states.specs.State.{Phase, Status, course_of}
 use Rattle.states.specs.Effects.{fault_at, fault_in}
+use Rattle.states.specs.Mode.{mode_number}
 use Rattle.orders.specs.declared.plan.Plan.{Plan}
-use Rattle.orders.specs.Tasks.{starts, takes_over}
+use Rattle.orders.specs.declared.plan.Accepted.{Accepted}
+use Rattle.orders.specs.Modes.{starts, takes_over}
 use Rattle.orders.specs.Questions.{verdict}
 use Rattle.orders.specs.Effects.{carried, refused}
 
@@ -25,6 +27,11 @@ at_hold o cause = takes_over o.command && (cause_number cause == 17 || cause_num
 abbrev pub order_fault : Order → Phase → Cause → AxisFault
 order_fault o phase cause =
     cond (names_program o) (fault_at o.byte 0 cause) (cond (at_hold o cause) (fault_in (course_of phase) cause) (fault_at 0 0 cause))
+
+-- what the code answers to the questions: the plan, with the mode that the order names
+abbrev pub Answers : Order → Result Plan Cause → Result Accepted Cause → Type 0
+Answers o v (Ok a) = (v ≡ Ok a.plan) × (mode_number a.mode ≡ o.mode)
+Answers o v (Err cause) = v ≡ Err cause
 
 abbrev pub answered : Order → Phase → Result Plan Cause → Result (Unit {0}) AxisFault
 answered o phase (Ok plan) = Ok tt

@@ -16,9 +16,10 @@ use Rattle.states.specs.Courses.{course_rate}
 use Rattle.states.specs.Shift.{own_shift}
 use Rattle.orders.specs.declared.plan.Plan.{Plan}
 use Rattle.orders.specs.declared.plan.Plan.TheVariants.{Halt, OnlyMode, OnlyClear, Zero, Go, Begin, Resume, Continue, NewOffset, NewTool}
-use Rattle.orders.specs.declared.task.Task.{Task}
-use Rattle.orders.specs.declared.task.Task.TheVariants.{Jog, ChooseMode, Reference, Position, Relative, Program, OffsetTo, OffsetBy, ClearOffset, ToolTo, ClearTool, ClearFault}
-use Rattle.orders.specs.Tasks.{task_of, admits, bare, needs_reference, values_fit, in_reach, stops, takes_over, goes_forward}
+use Rattle.states.specs.Mode.{mode_of}
+use Rattle.states.specs.declared.mode.Mode.{Mode}
+use Rattle.states.specs.declared.mode.Mode.TheVariants.{Jog, AxisOff, Reference, Position, Relative, Program, OffsetTo, OffsetBy, ClearOffset, ToolTo, ClearTool, ClearFault}
+use Rattle.orders.specs.Modes.{admits, bare, needs_reference, values_fit, in_reach, stops, takes_over, goes_forward}
 
 -- where a jog goes: as far as it may
 abbrev pub jog_target : RawData → Order → Work → ℤ
@@ -78,37 +79,37 @@ resume_questions p m (between c) = (false, NothingHeld) ∷ []
 abbrev pub shift_questions : ℤ → Questions
 shift_questions z = (in_reach z, ShiftOutside) ∷ []
 
--- what a task asks beyond what all do
-abbrev pub task_questions : Task → Order → Programs → Meaning → RawData → Work → Questions
-task_questions Jog o p m d w = go_questions d o (jog_target d o w) m w
-task_questions ChooseMode o p m d w = []
-task_questions Reference o p m d w = []
-task_questions Position o p m d w = go_questions d o (position_target o w) m w
-task_questions Relative o p m d w = go_questions d o (relative_target o w) m w
-task_questions Program o p m d w = cond (takes_over o.command) (resume_questions p m w.phase) (start_questions d o p)
-task_questions OffsetTo o p m d w = shift_questions o.double
-task_questions OffsetBy o p m d w = shift_questions (w.offset +ℤ o.double)
-task_questions ClearOffset o p m d w = shift_questions (pos 0)
-task_questions ToolTo o p m d w = shift_questions o.double
-task_questions ClearTool o p m d w = []
-task_questions ClearFault o p m d w = []
+-- what a mode asks beyond what all do
+abbrev pub mode_questions : Mode → Order → Programs → Meaning → RawData → Work → Questions
+mode_questions (Jog j) o p m d w = go_questions d o (jog_target d o w) m w
+mode_questions AxisOff o p m d w = []
+mode_questions Reference o p m d w = []
+mode_questions Position o p m d w = go_questions d o (position_target o w) m w
+mode_questions Relative o p m d w = go_questions d o (relative_target o w) m w
+mode_questions (Program k) o p m d w = cond (takes_over o.command) (resume_questions p m w.phase) (start_questions d o p)
+mode_questions OffsetTo o p m d w = shift_questions o.double
+mode_questions OffsetBy o p m d w = shift_questions (w.offset +ℤ o.double)
+mode_questions ClearOffset o p m d w = shift_questions (pos 0)
+mode_questions ToolTo o p m d w = shift_questions o.double
+mode_questions ClearTool o p m d w = []
+mode_questions ClearFault o p m d w = []
 
--- of a standing axis: 7, 12, 13 and the task's own
-abbrev pub standing_questions : Task → Order → Programs → Meaning → Option RawData → Work → Questions
-standing_questions task o p m None w = (bare task, NoMachineData) ∷ []
-standing_questions task o p m (Some d) w =
-    (not (needs_reference task) || w.referenced, NotReferenced)
-    ∷ (values_fit task o, ValueOutside)
-    ∷ task_questions task o p m d w
+-- of a standing axis: 7, 12, 13 and the mode's own
+abbrev pub standing_questions : Mode → Order → Programs → Meaning → Option RawData → Work → Questions
+standing_questions mode o p m None w = (bare mode, NoMachineData) ∷ []
+standing_questions mode o p m (Some d) w =
+    (not (needs_reference mode) || w.referenced, NotReferenced)
+    ∷ (values_fit mode o, ValueOutside)
+    ∷ mode_questions mode o p m d w
 
 -- of every order: 8, 9, 10; a stop is asked no more; 11
-abbrev pub order_questions : Option Task → Order → Programs → Meaning → Status → Questions
+abbrev pub order_questions : Option Mode → Order → Programs → Meaning → Status → Questions
 order_questions None o p m s = (false, UnknownMode) ∷ []
-order_questions (Some task) o p m s =
-    (admits task o.command, NotAdmitted)
+order_questions (Some mode) o p m s =
+    (admits mode o.command, NotAdmitted)
     ∷ (not (brakes s.work.phase), StillBraking)
     ∷ cond (stops o.command) []
-    ((stands s.work.phase, NotStanding) ∷ standing_questions task o p m s.machine s.work)
+    ((stands s.work.phase, NotStanding) ∷ standing_questions mode o p m s.machine s.work)
 
 abbrev pub go_plan : RawData → Order → ℤ → Meaning → Work → Plan
 go_plan d o target m w = Go (aim_for d (rate_by d o.word) target m w.zero)
@@ -125,28 +126,28 @@ resume_plan d m (braking t) zero = Continue
 resume_plan d m (held c u) zero = unfinished_plan d c u m zero
 resume_plan d m (between c) zero = Continue
 
-abbrev pub task_plan : Task → Order → Meaning → RawData → Work → Plan
-task_plan Jog o m d w = go_plan d o (jog_target d o w) m w
-task_plan ChooseMode o m d w = OnlyMode
-task_plan Reference o m d w = Zero
-task_plan Position o m d w = go_plan d o (position_target o w) m w
-task_plan Relative o m d w = go_plan d o (relative_target o w) m w
-task_plan Program o m d w = cond (takes_over o.command) (resume_plan d m w.phase w.zero) (Begin o.byte)
-task_plan OffsetTo o m d w = NewOffset o.double
-task_plan OffsetBy o m d w = NewOffset (w.offset +ℤ o.double)
-task_plan ClearOffset o m d w = NewOffset (pos 0)
-task_plan ToolTo o m d w = NewTool o.double
-task_plan ClearTool o m d w = NewTool (pos 0)
-task_plan ClearFault o m d w = OnlyClear
+abbrev pub mode_plan : Mode → Order → Meaning → RawData → Work → Plan
+mode_plan (Jog j) o m d w = go_plan d o (jog_target d o w) m w
+mode_plan AxisOff o m d w = OnlyMode
+mode_plan Reference o m d w = Zero
+mode_plan Position o m d w = go_plan d o (position_target o w) m w
+mode_plan Relative o m d w = go_plan d o (relative_target o w) m w
+mode_plan (Program k) o m d w = cond (takes_over o.command) (resume_plan d m w.phase w.zero) (Begin o.byte)
+mode_plan OffsetTo o m d w = NewOffset o.double
+mode_plan OffsetBy o m d w = NewOffset (w.offset +ℤ o.double)
+mode_plan ClearOffset o m d w = NewOffset (pos 0)
+mode_plan ToolTo o m d w = NewTool o.double
+mode_plan ClearTool o m d w = NewTool (pos 0)
+mode_plan ClearFault o m d w = OnlyClear
 
 -- without machine data only two modes do anything
-abbrev pub bare_plan : Task → Plan
-bare_plan ChooseMode = OnlyMode
-bare_plan Jog = OnlyClear
+abbrev pub bare_plan : Mode → Plan
+bare_plan AxisOff = OnlyMode
+bare_plan (Jog j) = OnlyClear
 bare_plan Reference = OnlyClear
 bare_plan Position = OnlyClear
 bare_plan Relative = OnlyClear
-bare_plan Program = OnlyClear
+bare_plan (Program k) = OnlyClear
 bare_plan OffsetTo = OnlyClear
 bare_plan OffsetBy = OnlyClear
 bare_plan ClearOffset = OnlyClear
@@ -154,13 +155,13 @@ bare_plan ToolTo = OnlyClear
 bare_plan ClearTool = OnlyClear
 bare_plan ClearFault = OnlyClear
 
-abbrev pub standing_plan : Task → Order → Meaning → Option RawData → Work → Plan
-standing_plan task o m None w = bare_plan task
-standing_plan task o m (Some d) w = task_plan task o m d w
+abbrev pub standing_plan : Mode → Order → Meaning → Option RawData → Work → Plan
+standing_plan mode o m None w = bare_plan mode
+standing_plan mode o m (Some d) w = mode_plan mode o m d w
 
-abbrev pub plan_for : Option Task → Order → Meaning → Status → Plan
+abbrev pub plan_for : Option Mode → Order → Meaning → Status → Plan
 plan_for None o m s = OnlyClear
-plan_for (Some task) o m s = cond (stops o.command) Halt (standing_plan task o m s.machine s.work)
+plan_for (Some mode) o m s = cond (stops o.command) Halt (standing_plan mode o m s.machine s.work)
 
 -- 18 to 21, then the move
 abbrev pub go_verdict : RawData → ℕ → ℤ → Meaning → ℤ → Bool → Result Plan Cause
@@ -178,16 +179,19 @@ abbrev pub shift_verdict : ℤ → Result ℤ Cause
 shift_verdict z = shift_questions z asks Ok z
 
 -- 7, without machine data
-abbrev pub bare_verdict : Task → Result Plan Cause
-bare_verdict task = cond (bare task) (Ok (bare_plan task)) (Err NoMachineData)
+abbrev pub bare_verdict : Mode → Result Plan Cause
+bare_verdict mode = cond (bare mode) (Ok (bare_plan mode)) (Err NoMachineData)
 
--- what an order is answered: the first no, else its plan
+-- what an order is answered in a mode, if its number has one: the first no, else its plan
+abbrev pub verdict_in : Option Mode → Order → Programs → Meaning → Status → Result Plan Cause
+verdict_in mode o p m s = order_questions mode o p m s asks Ok (plan_for mode o m s)
+
 abbrev pub verdict : Order → Programs → Meaning → Status → Result Plan Cause
-verdict o p m s = order_questions (task_of o.mode) o p m s asks Ok (plan_for (task_of o.mode) o m s)
+verdict o p m s = verdict_in (mode_of o.mode) o p m s
 
--- the same from question 7 on, and from the task's own
-abbrev pub standing_verdict : Task → Order → Programs → Meaning → Status → Result Plan Cause
-standing_verdict task o p m s = standing_questions task o p m s.machine s.work asks Ok (standing_plan task o m s.machine s.work)
+-- the same from question 7 on, and from the mode's own
+abbrev pub standing_verdict : Mode → Order → Programs → Meaning → Status → Result Plan Cause
+standing_verdict mode o p m s = standing_questions mode o p m s.machine s.work asks Ok (standing_plan mode o m s.machine s.work)
 
-abbrev pub task_verdict : Task → Order → Programs → Meaning → RawData → Work → Result Plan Cause
-task_verdict task o p m d w = task_questions task o p m d w asks Ok (task_plan task o m d w)
+abbrev pub mode_verdict : Mode → Order → Programs → Meaning → RawData → Work → Result Plan Cause
+mode_verdict mode o p m d w = mode_questions mode o p m d w asks Ok (mode_plan mode o m d w)

@@ -1,283 +1,211 @@
-ghost use Rattle.std.specs.Prelude.{◌≡◌, ◌+ℤ◌, ◌-ℤ◌, Some};
+ghost use Rattle.std.specs.Prelude.{◌≡◌, cond, ◌+ℤ◌, ◌-ℤ◌, Some};
 ghost use Rattle.motion.specs.Entry.{data_of};
 ghost use Rattle.motion.specs.Places.{rate_by};
-ghost use Rattle.store.specs.Programs.{store_of};
-ghost use Rattle.states.specs.State.{brakes};
-ghost use Rattle.states.specs.View.{reading_of, status_of, work_of, phase_of, course_in, raw_in};
 ghost use Rattle.motion.specs.Travel.{Going};
-ghost use Rattle.orders.specs.Tasks.{stops, takes_over, goes_forward};
-ghost use Rattle.orders.specs.Questions.{verdict, standing_verdict, task_verdict, bare_verdict, go_verdict, jog_target, position_target, relative_target, start_verdict, resume_verdict, same_measure, shift_verdict};
+ghost use Rattle.store.specs.Programs.{store_of};
+ghost use Rattle.states.specs.View.{reading_of, status_of, work_of, phase_of};
+ghost use Rattle.orders.specs.Modes.{goes_forward};
+ghost use Rattle.orders.specs.Orders.{Answers};
+ghost use Rattle.orders.specs.Questions.{verdict, verdict_in, standing_verdict, mode_verdict, bare_verdict, go_verdict, jog_target, position_target, relative_target, start_verdict, resume_verdict, shift_verdict};
 
-use crate::plan::Plan;
-use crate::task::{Task, task_of};
-use motion::MachineData;
-use states::asking::{aimed, ask_move, ask_ready, limits};
-use states::{Aim, Cause, Command, Order, Reading, Record, State, Wish, Working};
+use crate::modes::{admits, needs_reference, values_fit};
+use crate::plan::{Accepted, Plan};
+use states::asking::AxisView;
+use states::{Cause, Command, Mode, Order, Reading, Record, State, Wish};
 use store::Store;
-use units::Measure;
 
 // The greatest shift, in units.
 const REACH: i64 = 40_000_000;
 
-/// The questions to an order, in their order: the first no gives the cause, else what the order does.
-pub fn ask(axis: &Record, reading: Reading, store: &Store, order: Order) -> Result<Plan, Cause>
-    ensures { result ≡ verdict order (store_of store.now) (reading_of reading) (status_of axis.now) }
-{
-    let Some(task) = task_of(order.mode) else {
-        return Err(Cause::UnknownMode);
-    };
-    if !task.admits(order.command) {
-        return Err(Cause::NotAdmitted);
-    }
-    if is_braking(&axis.work.state) {
-        return Err(Cause::StillBraking);
-    }
-    if is_stop(order.command) {
-        return Ok(Plan::Halt);
-    }
-    if !axis.work.state.stands() {
-        return Err(Cause::NotStanding);
-    }
-    ask_standing(axis, reading, store, task, order)
+/// An order to an axis whose drive reads so, with the programs in store.
+#[derive(Clone, Copy)]
+pub struct Request<'a> {
+    pub axis: &'a Record,
+    pub reading: Reading,
+    pub store: &'a Store,
+    pub order: Order,
 }
 
-fn is_braking(state: &State) -> bool
-    ensures { (g : Going) → result ≡ brakes (phase_of g state.now) }
-{
-    matches!(state, State::Braking(_))
-}
-
-fn is_stop(command: Command) -> bool
-    ensures { result ≡ stops command }
-{
-    matches!(command, Command::Stop)
-}
-
-fn is_take_over(command: Command) -> bool
-    ensures { result ≡ takes_over command }
-{
-    matches!(command, Command::TakeOver)
-}
-
-fn is_forward(command: Command) -> bool
-    ensures { result ≡ goes_forward command }
-{
-    matches!(command, Command::Forward)
-}
-
-// 7, 12 and 13, then the task's own questions.
-fn ask_standing(
-    axis: &Record,
-    reading: Reading,
-    store: &Store,
-    task: Task,
-    order: Order,
-) -> Result<Plan, Cause>
-    ensures { result ≡ standing_verdict task order (store_of store.now) (reading_of reading) (status_of axis.now) }
-{
-    let Some(mover) = &axis.machine else {
-        return ask_bare(task);
-    };
-    if task.needs_reference() && !axis.work.referenced {
-        return Err(Cause::NotReferenced);
+impl Request<'_> {
+    /// The questions to an order, in their order: the first no gives the cause, else what the order does.
+    pub fn answer(&self) -> Result<Accepted, Cause>
+        ensures { Answers self.now.order (verdict self.now.order (store_of self.now.store.now) (reading_of self.now.reading) (status_of self.now.axis.now)) result }
+    {
+        let mode = Mode::try_from(self.order.mode)?;
+        let plan = self.ask(mode)?;
+        Ok(Accepted { mode, plan })
     }
-    if !task.values_fit(order) {
-        return Err(Cause::ValueOutside);
+
+    // 9, 10 and 11; a stop is asked no more after 10.
+    fn ask(&self, mode: Mode) -> Result<Plan, Cause>
+        ensures { result ≡ verdict_in (Some mode) self.now.order (store_of self.now.store.now) (reading_of self.now.reading) (status_of self.now.axis.now) }
+    {
+        if !admits(mode, self.order.command) {
+            return Err(Cause::NotAdmitted);
+        }
+        if let State::Braking(_) = self.axis.work.state {
+            return Err(Cause::StillBraking);
+        }
+        if self.order.command == Command::Stop {
+            return Ok(Plan::Halt);
+        }
+        if !self.axis.work.state.stands() {
+            return Err(Cause::NotStanding);
+        }
+        self.ask_standing(mode)
     }
-    ask_task(axis, mover.machine(), reading, store, task, order)
+
+    // 7, 12 and 13, then the mode's own questions.
+    fn ask_standing(&self, mode: Mode) -> Result<Plan, Cause>
+        ensures { result ≡ standing_verdict mode self.now.order (store_of self.now.store.now) (reading_of self.now.reading) (status_of self.now.axis.now) }
+    {
+        let Some(view) = self.axis.view(self.reading) else {
+            return ask_bare(mode);
+        };
+        if needs_reference(mode) && !self.axis.work.referenced {
+            return Err(Cause::NotReferenced);
+        }
+        if !values_fit(mode, self.order) {
+            return Err(Cause::ValueOutside);
+        }
+        self.ask_mode(&view, mode)
+    }
+
+    fn ask_mode(&self, view: &AxisView, mode: Mode) -> Result<Plan, Cause>
+        ensures { (g : Going) → result ≡ mode_verdict mode self.now.order (store_of self.now.store.now) (reading_of view.now.reading) (data_of view.now.machine.now) (work_of g view.now.work.now) }
+    {
+        match mode {
+            Mode::AxisOff => Ok(Plan::OnlyMode),
+            Mode::ClearFault => Ok(Plan::OnlyClear),
+            Mode::Reference => Ok(Plan::Zero),
+            Mode::Jog(_) => ask_go(view, jog(view, self.order)),
+            Mode::Position => ask_go(view, position(view, self.order)),
+            Mode::Relative => ask_go(view, relative(view, self.order)),
+            Mode::Program(_) if self.order.command == Command::TakeOver => self.ask_resume(view),
+            Mode::Program(_) => self.ask_start(view),
+            Mode::OffsetTo => Ok(Plan::NewOffset(ask_shift(given(self.order))?)),
+            Mode::OffsetBy => Ok(Plan::NewOffset(ask_shift(added(view, self.order))?)),
+            Mode::ClearOffset => Ok(Plan::NewOffset(0)),
+            Mode::ToolTo => Ok(Plan::NewTool(ask_shift(given(self.order))?)),
+            Mode::ClearTool => Ok(Plan::NewTool(0)),
+        }
+    }
+
+    // 14 and 15.
+    fn ask_start(&self, view: &AxisView) -> Result<Plan, Cause>
+        ensures { result ≡ start_verdict (data_of view.now.machine.now) self.now.order (store_of self.now.store.now) }
+    {
+        let program = self.order.byte;
+        let Some(measure) = self.store.measure_of(program) else {
+            return Err(Cause::NotStored);
+        };
+        if measure != view.machine.values().measure {
+            return Err(Cause::OtherMeasure);
+        }
+        Ok(Plan::Begin(program))
+    }
+
+    // 16 and 17, and 21 where a target is unfinished.
+    fn ask_resume(&self, view: &AxisView) -> Result<Plan, Cause>
+        ensures { (g : Going) → result ≡ resume_verdict (data_of view.now.machine.now) (store_of self.now.store.now) (reading_of view.now.reading) (phase_of g view.now.work.now.state) view.now.work.now.zero }
+    {
+        let State::Held(hold) = view.work.state else {
+            return Err(Cause::NothingHeld);
+        };
+        if self.store.measure_of(hold.run.program).is_none() {
+            return Err(Cause::HeldNotStored);
+        }
+        let Some(target) = hold.unfinished else {
+            return Ok(Plan::Continue);
+        };
+        view.reading.ask_ready()?;
+        Ok(Plan::Resume(view.aim(target, hold.run.rate(view.machine))))
+    }
 }
 
 // Without machine data.
-fn ask_bare(task: Task) -> Result<Plan, Cause>
-    ensures { result ≡ bare_verdict task }
+fn ask_bare(mode: Mode) -> Result<Plan, Cause>
+    ensures { result ≡ bare_verdict mode }
 {
-    match task {
-        Task::ChooseMode => Ok(Plan::OnlyMode),
-        Task::ClearFault => Ok(Plan::OnlyClear),
+    match mode {
+        Mode::AxisOff => Ok(Plan::OnlyMode),
+        Mode::ClearFault => Ok(Plan::OnlyClear),
         _ => Err(Cause::NoMachineData),
     }
 }
 
-fn ask_task(
-    axis: &Record,
-    machine: &MachineData,
-    reading: Reading,
-    store: &Store,
-    task: Task,
-    order: Order,
-) -> Result<Plan, Cause>
-    ensures { result ≡ task_verdict task order (store_of store.now) (reading_of reading) (data_of machine.now) (status_of axis.now).work }
-{
-    let work = &axis.work;
-    match task {
-        Task::ChooseMode => Ok(Plan::OnlyMode),
-        Task::ClearFault => Ok(Plan::OnlyClear),
-        Task::Reference => Ok(Plan::Zero),
-        Task::Jog => ask_go(work, machine, reading, jog(work, machine, order)),
-        Task::Position => ask_go(work, machine, reading, position(work, machine, order)),
-        Task::Relative => ask_go(work, machine, reading, relative(work, machine, order)),
-        Task::Program if is_take_over(order.command) => ask_resume(work, machine, reading, store),
-        Task::Program => ask_start(machine, store, order),
-        Task::OffsetTo => Ok(Plan::NewOffset(ask_shift(given(order))?)),
-        Task::OffsetBy => Ok(Plan::NewOffset(ask_shift(added(work, order))?)),
-        Task::ClearOffset => Ok(Plan::NewOffset(0)),
-        Task::ToolTo => Ok(Plan::NewTool(ask_shift(given(order))?)),
-        Task::ClearTool => Ok(Plan::NewTool(0)),
-    }
-}
-
 // 18 to 21.
-fn ask_go(
-    work: &Working,
-    machine: &MachineData,
-    reading: Reading,
-    wish: Wish,
-) -> Result<Plan, Cause>
-    ensures { result ≡ go_verdict (data_of machine.now) wish.rate wish.target (reading_of reading) work.now.zero work.now.referenced }
+fn ask_go(view: &AxisView, wish: Wish) -> Result<Plan, Cause>
+    ensures { result ≡ go_verdict (data_of view.now.machine.now) wish.rate wish.target (reading_of view.now.reading) view.now.work.now.zero view.now.work.now.referenced }
 {
-    match ask_move(work, machine, reading, wish) {
-        Ok(aim) => Ok(Plan::Go(aim)),
-        Err(cause) => Err(cause),
-    }
+    Ok(Plan::Go(view.ask_move(wish)?))
 }
 
 // As far as the axis may go.
-fn jog(work: &Working, machine: &MachineData, order: Order) -> Wish
-    ensures { (g : Going) → result ≡ record { target = jog_target (data_of machine.now) order (work_of g work.now); rate = rate_by (data_of machine.now) order.word } }
+fn jog(view: &AxisView, order: Order) -> Wish
+    ensures { (g : Going) → result ≡ record { target = jog_target (data_of view.now.machine.now) order (work_of g view.now.work.now); rate = rate_by (data_of view.now.machine.now) order.word } }
 {
-    let span = limits(work, machine);
-    let target = if is_forward(order.command) {
+    let span = view.limits();
+    let target = if order.command == Command::Forward {
         span.high
     } else {
         span.low
     };
     Wish {
-        target: target as i64,
-        rate: machine.rate_of(order.word),
+        target: i64::from(target),
+        rate: view.machine.rate_of(order.word),
     }
 }
 
-fn position(work: &Working, machine: &MachineData, order: Order) -> Wish
-    ensures { (g : Going) → result ≡ record { target = position_target order (work_of g work.now); rate = rate_by (data_of machine.now) order.word } }
+fn position(view: &AxisView, order: Order) -> Wish
+    ensures { (g : Going) → result ≡ record { target = position_target order (work_of g view.now.work.now); rate = rate_by (data_of view.now.machine.now) order.word } }
+{
+    let shift = view.work.own_shift();
+    Wish {
+        target: i64::from(order.double) + shift,
+        rate: view.machine.rate_of(order.word),
+    }
+}
+
+fn relative(view: &AxisView, order: Order) -> Wish
+    ensures { (g : Going) → result ≡ record { target = relative_target order (work_of g view.now.work.now); rate = rate_by (data_of view.now.machine.now) order.word } }
 {
     Wish {
-        target: shifted(work, order),
-        rate: machine.rate_of(order.word),
+        target: moved(view, order),
+        rate: view.machine.rate_of(order.word),
     }
 }
 
-fn shifted(work: &Working, order: Order) -> i64
-    ensures { result ≡ (order.double +ℤ (work.now.offset +ℤ work.now.tool)) }
+fn moved(view: &AxisView, order: Order) -> i64
+    ensures { result ≡ cond (goes_forward order.command) (view.now.work.now.coordinate +ℤ order.double) (view.now.work.now.coordinate -ℤ order.double) }
 {
-    let shift = work.own_shift();
-    order.double as i64 + shift
-}
-
-fn relative(work: &Working, machine: &MachineData, order: Order) -> Wish
-    ensures { (g : Going) → result ≡ record { target = relative_target order (work_of g work.now); rate = rate_by (data_of machine.now) order.word } }
-{
-    let target = if is_forward(order.command) {
-        ahead(work, order)
+    let here = i64::from(view.work.coordinate);
+    let distance = i64::from(order.double);
+    if order.command == Command::Forward {
+        here + distance
     } else {
-        behind(work, order)
-    };
-    Wish {
-        target,
-        rate: machine.rate_of(order.word),
+        here - distance
     }
 }
 
-fn ahead(work: &Working, order: Order) -> i64
-    ensures { result ≡ (work.now.coordinate +ℤ order.double) }
+// 22, of a value of the shift.
+fn ask_shift(units: i64) -> Result<i32, Cause>
+    ensures { result ≡ shift_verdict units }
 {
-    work.coordinate as i64 + order.double as i64
-}
-
-fn behind(work: &Working, order: Order) -> i64
-    ensures { result ≡ (work.now.coordinate -ℤ order.double) }
-{
-    work.coordinate as i64 - order.double as i64
-}
-
-// 14 and 15.
-fn ask_start(machine: &MachineData, store: &Store, order: Order) -> Result<Plan, Cause>
-    ensures { result ≡ start_verdict (data_of machine.now) order (store_of store.now) }
-{
-    let Some(measure) = store.measure_of(order.byte) else {
-        return Err(Cause::NotStored);
-    };
-    if !is_same(machine.values().measure, measure) {
-        return Err(Cause::OtherMeasure);
-    }
-    Ok(Plan::Begin(order.byte))
-}
-
-fn is_same(one: Measure, other: Measure) -> bool
-    ensures { result ≡ same_measure one other }
-{
-    matches!(
-        (one, other),
-        (Measure::Millimetre, Measure::Millimetre)
-            | (Measure::Inch, Measure::Inch)
-            | (Measure::Degree, Measure::Degree)
-    )
-}
-
-// 16 and 17, and 21 where a target is unfinished.
-fn ask_resume(
-    work: &Working,
-    machine: &MachineData,
-    reading: Reading,
-    store: &Store,
-) -> Result<Plan, Cause>
-    ensures { (g : Going) → result ≡ resume_verdict (data_of machine.now) (store_of store.now) (reading_of reading) (phase_of g work.now.state) work.now.zero }
-{
-    let State::Held(hold) = work.state else {
-        return Err(Cause::NothingHeld);
-    };
-    if store.measure_of(hold.run.program).is_none() {
-        return Err(Cause::HeldNotStored);
-    }
-    let Some(target) = hold.unfinished else {
-        return Ok(Plan::Continue);
-    };
-    ask_ready(reading)?;
-    let aim = Aim {
-        target,
-        rate: hold.run.rate(machine),
-        distance: 0,
-    };
-    Ok(Plan::Resume(aimed(work, machine, reading, aim)))
-}
-
-// A value of the shift, before it is asked whether it can be.
-#[derive(Clone, Copy)]
-struct Value {
-    units: i64,
-}
-
-// 22
-fn ask_shift(value: Value) -> Result<i32, Cause>
-    ensures { result ≡ shift_verdict value.units }
-{
-    if value.units < -REACH || REACH < value.units {
+    if !(-REACH..=REACH).contains(&units) {
         return Err(Cause::ShiftOutside);
     }
-    Ok(value.units as i32)
+    Ok(units as i32)
 }
 
-fn given(order: Order) -> Value
-    ensures { result.units ≡ order.double }
+fn given(order: Order) -> i64
+    ensures { result ≡ order.double }
 {
-    Value {
-        units: order.double as i64,
-    }
+    i64::from(order.double)
 }
 
-fn added(work: &Working, order: Order) -> Value
-    ensures { result.units ≡ (work.now.offset +ℤ order.double) }
+fn added(view: &AxisView, order: Order) -> i64
+    ensures { result ≡ (view.now.work.now.offset +ℤ order.double) }
 {
-    Value {
-        units: work.offset as i64 + order.double as i64,
-    }
+    i64::from(view.work.offset) + i64::from(order.double)
 }

@@ -3,16 +3,17 @@ ghost use Rattle.motion.specs.Entry.{data_of};
 ghost use Rattle.motion.specs.Places.{pulses_by};
 ghost use Rattle.motion.specs.Travel.{Going};
 ghost use Rattle.states.specs.State.{with_work, with_fault, with_phase, stopped};
+ghost use Rattle.states.specs.Mode.{mode_number};
 ghost use Rattle.states.specs.View.{reading_of, raw_in, status_of, phase_of};
 ghost use Rattle.orders.specs.Effects.{taken, taken_over, zeroed, gone_on, halted, carried, refused};
 
 use crate::plan::Plan;
 use motion::MachineData;
-use states::{AxisFault, Hold, Reading, Record, Run, State};
+use states::{AxisFault, Cause, Hold, Mode, Reading, Record, Run, State};
 
 /// Carries out what an accepted order is to do.
-pub fn carry_out(axis: &mut Record, reading: Reading, mode: u8, plan: Plan)
-    ensures { status_of axis.new ≡ carried mode plan (reading_of reading) (status_of axis.old) }
+pub fn carry_out(axis: &mut Record, reading: Reading, mode: Mode, plan: Plan)
+    ensures { status_of axis.new ≡ carried (mode_number mode) plan (reading_of reading) (status_of axis.old) }
 {
     match plan {
         Plan::Halt => halt(axis),
@@ -55,14 +56,14 @@ pub fn refuse(axis: &mut Record, fault: AxisFault)
     ensures { status_of axis.new ≡ refused fault (status_of axis.old) }
 {
     axis.work.fault = Some(fault);
-    if fault.cause.number() == 11 {
+    if fault.cause == Cause::NotStanding {
         stop(&mut axis.work.state);
     }
 }
 
 // A held program is over.
-fn take(axis: &mut Record, mode: u8)
-    ensures { status_of axis.new ≡ with_work (taken mode (status_of axis.old).work) (status_of axis.old) }
+fn take(axis: &mut Record, mode: Mode)
+    ensures { status_of axis.new ≡ with_work (taken (mode_number mode) (status_of axis.old).work) (status_of axis.old) }
 {
     axis.work.mode = mode;
     axis.work.auxiliary = 2;
@@ -71,8 +72,8 @@ fn take(axis: &mut Record, mode: u8)
 }
 
 // A held program stays.
-fn take_over(axis: &mut Record, mode: u8)
-    ensures { status_of axis.new ≡ with_work (taken_over mode (status_of axis.old).work) (status_of axis.old) }
+fn take_over(axis: &mut Record, mode: Mode)
+    ensures { status_of axis.new ≡ with_work (taken_over (mode_number mode) (status_of axis.old).work) (status_of axis.old) }
 {
     axis.work.mode = mode;
     axis.work.fault = None;

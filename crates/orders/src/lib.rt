@@ -1,12 +1,10 @@
 //! Orders to one axis: the questions in their order, and what an accepted order does.
 #![tactic(auto)]
 
-pub mod asking;
-pub mod effects;
-pub mod ordering;
-pub mod plan;
-pub mod task;
+mod asking;
+mod effects;
+mod modes;
+mod ordering;
+mod plan;
 
 pub use ordering::order;
-pub use plan::Plan;
-pub use task::Task;

@@ -4,10 +4,11 @@ ghost use Rattle.store.specs.Programs.{store_of};
 ghost use Rattle.states.specs.View.{reading_of, status_of, phase_of};
 ghost use Rattle.orders.specs.Orders.{names_program, at_hold, order_fault, order_reply, order_step};
 
-use crate::asking::ask;
+use crate::asking::Request;
 use crate::effects::{carry_out, refuse};
+use drives::fault::DriveFault;
 use states::effects::fault_in;
-use states::{AxisFault, Cause, Command, Order, Reading, Record, State};
+use states::{AxisFault, Cause, Command, Mode, Order, Reading, Record, State};
 use store::Store;
 
 /// An order to an axis whose drive reads so, with the programs in store.
@@ -20,9 +21,15 @@ pub fn order(
     ensures value { result ≡ order_reply order (store_of store.now) (reading_of reading) (status_of axis.old) }
     ensures after { status_of axis.new ≡ order_step order (store_of store.now) (reading_of reading) (status_of axis.old) }
 {
-    match ask(axis, reading, store, order) {
-        Ok(plan) => {
-            carry_out(axis, reading, order.mode, plan);
+    let request = Request {
+        axis,
+        reading,
+        store,
+        order,
+    };
+    match request.answer() {
+        Ok(accepted) => {
+            carry_out(axis, reading, accepted.mode, accepted.plan);
             Ok(())
         }
         Err(cause) => {
@@ -54,13 +61,16 @@ fn located(order: Order, state: &State, cause: Cause) -> AxisFault
 fn names_program(order: Order) -> bool
     ensures { result ≡ names_program order }
 {
-    (order.mode == 8 || order.mode == 9) && matches!(order.command, Command::Start)
+    order.command == Command::Start && matches!(Mode::try_from(order.mode), Ok(Mode::Program(_)))
 }
 
 // 17 and 21 at take-over.
 fn is_at_hold(order: Order, cause: Cause) -> bool
     ensures { result ≡ at_hold order cause }
 {
-    let number = cause.number();
-    matches!(order.command, Command::TakeOver) && (number == 17 || number == 21)
+    order.command == Command::TakeOver
+        && matches!(
+            cause,
+            Cause::HeldNotStored | Cause::OfDrive(DriveFault::NotReadyToMove)
+        )
 }

@@ -1,4 +1,4 @@
-use states::Aim;
+use states::{Aim, Mode};
 
 /// What an accepted order does.
 #[derive(Clone, Copy)]
@@ -20,4 +20,11 @@ pub enum Plan {
     Continue,
     NewOffset(i32),
     NewTool(i32),
+}
+
+/// An accepted order: its mode, and what it does.
+#[derive(Clone, Copy)]
+pub struct Accepted {
+    pub mode: Mode,
+    pub plan: Plan,
 }

@@ -1,7 +1,9 @@
+pub mod Mode
 pub mod Faults
 pub mod State
 pub mod View
 pub mod Moves
+pub mod Movers
 pub mod Shift
 pub mod Effects
 pub mod Courses

@@ -3,7 +3,9 @@ use Rattle.std.specs.Prelude.{ℕ, ◌+◌, Bool, true, false, cond, not, ℤ, p
 use Rattle.units.specs.declared.Measure.{Measure}
 use Rattle.units.specs.declared.Measure.TheVariants.{Millimetre, Inch, Degree}
 use Rattle.motion.specs.declared.raw.RawData.{RawData}
+use Rattle.states.specs.declared.fault.AxisFault.{AxisFault}
 use Rattle.states.specs.declared.observation.Observation.{Observation}
+use Rattle.states.specs.Mode.{mode_number}
 use Rattle.states.specs.State.{Phase, standing, moving, braking, held, between, Work, Status, stands}
 use Rattle.states.specs.Shift.{shift_of}
 
@@ -44,7 +46,21 @@ feedback_of machine w =
     + bit (not (is_some machine)) 64
     + bit (stands w.phase) 128
 
-abbrev pub observed : Status → Observation
+-- what observing shows, all of it in numbers
+pub record Shown : Type 0 where
+  pub mode : ℕ
+  pub auxiliary : ℕ
+  pub coordinate : ℤ
+  pub shift : ℤ
+  pub actual : ℤ
+  pub rest : ℤ
+  pub fault : Option AxisFault
+  pub feedback : ℕ
+
+abbrev pub shown_by : Observation → Shown
+shown_by o = record { mode = mode_number o.mode; auxiliary = o.auxiliary; coordinate = o.coordinate; shift = o.shift; actual = o.actual; rest = o.rest; fault = o.fault; feedback = o.feedback }
+
+abbrev pub observed : Status → Shown
 observed s = record {
   mode = s.work.mode;
   auxiliary = s.work.auxiliary;

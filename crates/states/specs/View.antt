@@ -12,6 +12,7 @@ use Rattle.states.specs.declared.state.State.TheVariants.{Standing, Moving, Brak
 use Rattle.states.specs.declared.working.Working.{Working}
 use Rattle.states.specs.declared.record.Record.{Record}
 use Rattle.states.specs.declared.reading.Reading.{Reading}
+use Rattle.states.specs.Mode.{mode_number}
 use Rattle.states.specs.State.{Course, Travel, Phase, standing, moving, braking, held, between, Work, Status}
 
 abbrev pub reading_of : Reading → Meaning
@@ -44,7 +45,7 @@ phase_of g (Held h) = held (course_in h.run) h.unfinished
 phase_of g (BetweenBlocks r) = between (course_in r)
 
 abbrev pub work_of : Going → Working → Work
-work_of g w = record { mode = w.mode; auxiliary = w.auxiliary; fault = w.fault; offset = w.offset; tool = w.tool; coordinate = w.coordinate; zero = w.zero; referenced = w.referenced; in_position = w.in_position; phase = phase_of g w.state }
+work_of g w = record { mode = mode_number w.mode; auxiliary = w.auxiliary; fault = w.fault; offset = w.offset; tool = w.tool; coordinate = w.coordinate; zero = w.zero; referenced = w.referenced; in_position = w.in_position; phase = phase_of g w.state }
 
 abbrev pub status_of : Record → Status
 status_of r = record { begin = r.switches.begin; end = r.switches.end; machine = raw_in r.machine; work = work_of (going_in r.machine) r.work }

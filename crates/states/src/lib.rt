@@ -8,6 +8,7 @@ pub mod course;
 pub mod effects;
 pub mod entry;
 pub mod fault;
+pub mod mode;
 pub mod movers;
 pub mod observation;
 mod observing;
@@ -21,6 +22,7 @@ pub mod working;
 
 pub use aim::{Aim, Wish};
 pub use fault::{AxisFault, Cause, Layer};
+pub use mode::{Jog, Mode, Pace, UnknownMode};
 pub use observation::Observation;
 pub use order::{Command, Order};
 pub use reading::Reading;

@@ -1,9 +1,10 @@
 use crate::fault::AxisFault;
+use crate::mode::Mode;
 
 /// What observing an axis answers; all but mode and M in units.
 #[derive(Clone, Copy, PartialEq, Eq, Debug)]
 pub struct Observation {
-    pub mode: u8,
+    pub mode: Mode,
     /// the M number
     pub auxiliary: u8,
     pub coordinate: i32,

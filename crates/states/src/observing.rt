@@ -2,7 +2,7 @@ ghost use Rattle.std.specs.Prelude.{◌≡◌, ◌+◌, ◌≤◌, not, ◌-ℤ�
 ghost use Rattle.states.specs.View.{raw_in, going_in, phase_of, work_of, status_of};
 ghost use Rattle.states.specs.State.{stands};
 ghost use Rattle.states.specs.Shift.{shift_of};
-ghost use Rattle.states.specs.Observation.{bit, measured, in_degrees, in_millimetres, rest_in, feedback_of, observed};
+ghost use Rattle.states.specs.Observation.{bit, measured, in_degrees, in_millimetres, rest_in, feedback_of, shown_by, observed};
 
 use crate::observation::Observation;
 use crate::record::Record;
@@ -50,7 +50,7 @@ fn measure_bits(machine: &Option<Mover>) -> u8
 impl Record {
     /// What observing answers; nothing changes.
     pub fn observe(&self) -> Observation
-        ensures { result ≡ observed (status_of self.now) }
+        ensures { shown_by result ≡ observed (status_of self.now) }
     {
         let shift = self.shift();
         Observation {

@@ -9,12 +9,10 @@ ghost use Rattle.states.specs.View.{reading_of, raw_in, going_in, course_in, wor
 ghost use Rattle.ticks.specs.Blocks.{with_words, block_target, target_verdict, block_verdict, showing, begun_with, begun_reply, block_run, block_reply, next_run, next_reply, next_block, take_step, take_reply};
 
 use crate::moving::after_block;
-use motion::{MachineData, Mover};
 use reader::{Block, Way};
-use states::asking::ask_move;
+use states::asking::AxisView;
 use states::effects::fault_in;
-use states::shift::chosen_offset;
-use states::{Aim, AxisFault, Cause, Reading, Record, Run, State, Wish, Working};
+use states::{Aim, AxisFault, Cause, Reading, Record, Run, State, Wish};
 use store::Store;
 
 /// Takes the next block of a program; one that has none left is over.
@@ -22,7 +20,7 @@ pub fn take(axis: &mut Record, reading: Reading, store: &Store, run: Run) -> Res
     ensures value { result ≡ take_reply (store_of store.now) (course_in run) (reading_of reading) (status_of axis.old) }
     ensures after { status_of axis.new ≡ take_step (store_of store.now) (course_in run) (reading_of reading) (status_of axis.old) }
 {
-    let Some(block) = store.block(run.program, run.taken as usize) else {
+    let Some(block) = store.block(run.program, usize::from(run.taken)) else {
         axis.work.state = State::Standing;
         return Ok(());
     };
@@ -50,12 +48,12 @@ fn run_block(axis: &mut Record, reading: Reading, block: &Block, run: Run) -> Re
     ensures value { result ≡ block_reply block.now.target (course_in run) (reading_of reading) (raw_in axis.old.machine) (status_of axis.old).work }
     ensures after { status_of axis.new ≡ with_work (block_run block.now.target (course_in run) (reading_of reading) (raw_in axis.old.machine) (status_of axis.old).work) (status_of axis.old) }
 {
-    let Some(units) = block.target else {
+    let Some(x) = block.target else {
         show(axis, run);
         axis.work.state = after_block(axis.work.mode, false, run);
         return Ok(());
     };
-    begin(axis, ask_block(axis, reading, Place { units }, run), run)
+    begin(axis, ask_block(axis, reading, x, run), run)
 }
 
 // The M of a block shows from the tick that takes it.
@@ -85,67 +83,54 @@ fn begin(axis: &mut Record, asked: Result<Aim, Cause>, run: Run) -> Result<(), A
     }
 }
 
-// The X of a block, in units.
-#[derive(Clone, Copy)]
-struct Place {
-    units: i32,
-}
-
 // 18 to 21 of a block with X.
-fn ask_block(axis: &Record, reading: Reading, x: Place, run: Run) -> Result<Aim, Cause>
-    ensures { result ≡ block_verdict (raw_in axis.now.machine) (course_in run) x.units (reading_of reading) (status_of axis.now).work }
+fn ask_block(axis: &Record, reading: Reading, x: i32, run: Run) -> Result<Aim, Cause>
+    ensures { result ≡ block_verdict (raw_in axis.now.machine) (course_in run) x (reading_of reading) (status_of axis.now).work }
 {
-    let Some(mover) = &axis.machine else {
+    let Some(view) = axis.view(reading) else {
         return Err(Cause::NoMachineData);
     };
-    ask_target(&axis.work, mover.machine(), reading, x, &run)
+    ask_target(&view, x, &run)
 }
 
-fn ask_target(
-    work: &Working,
-    machine: &MachineData,
-    reading: Reading,
-    x: Place,
-    run: &Run,
-) -> Result<Aim, Cause>
-    ensures { (g : Going) → result ≡ target_verdict (data_of machine.now) (course_in run.now) x.units (reading_of reading) (work_of g work.now) }
+fn ask_target(view: &AxisView, x: i32, run: &Run) -> Result<Aim, Cause>
+    ensures { (g : Going) → result ≡ target_verdict (data_of view.now.machine.now) (course_in run.now) x (reading_of view.now.reading) (work_of g view.now.work.now) }
 {
-    ask_move(work, machine, reading, wish(work, machine, x, run))
+    view.ask_move(wish(view, x, run))
 }
 
-fn wish(work: &Working, machine: &MachineData, x: Place, run: &Run) -> Wish
-    ensures { (g : Going) → result ≡ record { target = block_target (data_of machine.now) (course_in run.now) x.units (work_of g work.now); rate = course_rate (data_of machine.now) (course_in run.now) } }
+fn wish(view: &AxisView, x: i32, run: &Run) -> Wish
+    ensures { (g : Going) → result ≡ record { target = block_target (data_of view.now.machine.now) (course_in run.now) x (work_of g view.now.work.now); rate = course_rate (data_of view.now.machine.now) (course_in run.now) } }
 {
-    let target = match run.way {
-        Way::Absolute => shifted(work, machine, x, run),
-        Way::Relative => moved(work, x),
-    };
     Wish {
-        target,
-        rate: run.rate(machine),
+        target: match run.way {
+            Way::Absolute => shifted(view, x, run),
+            Way::Relative => moved(view, x),
+        },
+        rate: run.rate(view.machine),
     }
 }
 
 // Under G90: X and the shift, with the offset that the program has chosen.
-fn shifted(work: &Working, machine: &MachineData, x: Place, run: &Run) -> i64
-    ensures { result ≡ (x.units +ℤ ((work.now.offset +ℤ work.now.tool) +ℤ offset_by (data_of machine.now) run.now.offset)) }
+fn shifted(view: &AxisView, x: i32, run: &Run) -> i64
+    ensures { result ≡ (x +ℤ ((view.now.work.now.offset +ℤ view.now.work.now.tool) +ℤ offset_by (data_of view.now.machine.now) run.now.offset)) }
 {
-    let shift = program_shift(work, machine, run);
-    x.units as i64 + shift
+    let shift = program_shift(view, run);
+    i64::from(x) + shift
 }
 
-fn program_shift(work: &Working, machine: &MachineData, run: &Run) -> i64
-    ensures value { result ≡ ((work.now.offset +ℤ work.now.tool) +ℤ offset_by (data_of machine.now) run.now.offset) }
+fn program_shift(view: &AxisView, run: &Run) -> i64
+    ensures value { result ≡ ((view.now.work.now.offset +ℤ view.now.work.now.tool) +ℤ offset_by (data_of view.now.machine.now) run.now.offset) }
     ensures small { unsigned_abs result ≤ 6442450944 }
 {
-    let own = work.own_shift();
-    let chosen = chosen_offset(machine, run);
+    let own = view.work.own_shift();
+    let chosen = i64::from(run.chosen_offset(view.machine));
     own + chosen
 }
 
 // Under G91: a distance from the coordinate.
-fn moved(work: &Working, x: Place) -> i64
-    ensures { result ≡ (work.now.coordinate +ℤ x.units) }
+fn moved(view: &AxisView, x: i32) -> i64
+    ensures { result ≡ (view.now.work.now.coordinate +ℤ x) }
 {
-    work.coordinate as i64 + x.units as i64
+    i64::from(view.work.coordinate) + i64::from(x)
 }

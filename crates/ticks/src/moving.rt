@@ -1,5 +1,6 @@
 ghost use Rattle.std.specs.Prelude.{◌≡◌, ◌&&◌, if◌then◌else◌, None, ◌==◌};
 ghost use Rattle.motion.specs.Travel.{Going};
+ghost use Rattle.states.specs.Mode.{mode_number};
 ghost use Rattle.states.specs.Moves.{direction_of};
 ghost use Rattle.states.specs.Effects.{fault_in};
 ghost use Rattle.states.specs.State.{with_work, held as held_with, between};
@@ -9,7 +10,7 @@ ghost use Rattle.ticks.specs.Moving.{is_ahead, after_move, stopped_short, ran, s
 
 use drives::direction::Direction;
 use states::effects::fault_in;
-use states::{AxisFault, Cause, Hold, Journey, Reading, Record, Run, State, Switches};
+use states::{AxisFault, Cause, Hold, Journey, Mode, Pace, Reading, Record, Run, State, Switches};
 
 /// The way that the pulses of a move go.
 pub fn direction_of(journey: Journey) -> Direction
@@ -33,8 +34,8 @@ pub fn is_ahead(journey: Journey, switches: Switches) -> bool
 }
 
 /// A block is done: what follows by its M and by the mode.
-pub fn after_block(mode: u8, moved: bool, run: Run) -> State
-    ensures { (g : Going) → phase_of g result ≡ done_with mode moved (course_in run) }
+pub(crate) fn after_block(mode: Mode, moved: bool, run: Run) -> State
+    ensures { (g : Going) → phase_of g result ≡ done_with (mode_number mode) moved (course_in run) }
 {
     match run.auxiliary {
         Some(2) | Some(30) => State::Standing,
@@ -43,11 +44,11 @@ pub fn after_block(mode: u8, moved: bool, run: Run) -> State
     }
 }
 
-// Mode 9 holds after each move.
-fn after_step(mode: u8, moved: bool, run: Run) -> State
-    ensures { (g : Going) → phase_of g result ≡ (if moved && mode == 9 then held_with (course_in run) None else between (course_in run)) }
+// A program in single blocks is held after each move.
+fn after_step(mode: Mode, moved: bool, run: Run) -> State
+    ensures { (g : Going) → phase_of g result ≡ (if moved && mode_number mode == 9 then held_with (course_in run) None else between (course_in run)) }
 {
-    if moved && mode == 9 {
+    if moved && mode == Mode::Program(Pace::SingleBlock) {
         held(run, None)
     } else {
         State::BetweenBlocks(run)
@@ -61,8 +62,8 @@ fn held(run: Run, unfinished: Option<i32>) -> State
 }
 
 // A move is complete, and with it the block of its program.
-fn after_move(mode: u8, run: Option<Run>) -> State
-    ensures { (g : Going) → phase_of g result ≡ after_move mode (course_if run) }
+fn after_move(mode: Mode, run: Option<Run>) -> State
+    ensures { (g : Going) → phase_of g result ≡ after_move (mode_number mode) (course_if run) }
 {
     match run {
         None => State::Standing,
@@ -76,10 +77,7 @@ fn stopped_short(journey: Journey) -> State
 {
     match journey.run {
         None => State::Standing,
-        Some(run) => State::Held(Hold {
-            run,
-            unfinished: Some(journey.target),
-        }),
+        Some(run) => held(run, Some(journey.target)),
     }
 }
 
