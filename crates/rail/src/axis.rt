@@ -1,7 +1,7 @@
 ghost use Rattle.std.specs.Prelude.{◌≡◌};
 ghost use Rattle.rail.specs.Bench.{axis_means, called, answers};
 
-use crate::script::Call;
+use crate::script::Ask;
 use drives::clock_stage::ClockStage;
 use drives::drive::Drive;
 use drives::fault::{DriveFault, Refusal};
@@ -42,24 +42,17 @@ impl Axis {
         Ok(Axis { build, drive })
     }
 
-    /// A call on this axis, whichever axis it names.
-    pub fn call(&mut self, call: Call) -> Reply
-        ensures value { result ≡ answers call (axis_means self.old) }
-        ensures after { axis_means self.new ≡ called call (axis_means self.old) }
+    /// What is asked of this axis.
+    pub fn call(&mut self, ask: Ask) -> Result<(), Refusal>
+        ensures value { result ≡ answers ask (axis_means self.old) }
+        ensures after { axis_means self.new ≡ called ask (axis_means self.old) }
     {
-        match call {
-            Call::Levels { ready, .. } => {
+        match ask {
+            Ask::Level { ready } => {
                 self.drive.level(ready);
-                Reply::Done
+                Ok(())
             }
-            Call::Pulse {
-                direction,
-                pulses,
-                ..
-            } => match send(&mut self.drive, direction, pulses) {
-                Ok(()) => Reply::Done,
-                Err(refusal) => Reply::Refused(refusal),
-            },
+            Ask::Pulses { direction, pulses } => send(&mut self.drive, direction, pulses),
         }
     }
 
@@ -88,25 +81,6 @@ fn layer<D: Drive + Drop>(below: D, play: u16) -> Result<TakeUp<D>, DriveFault> 
     match TakeUp::new(below, play) {
         Ok(layer) => Ok(layer),
         Err(back) => Err(back.1),
-    }
-}
-
-/// What a call is answered.
-#[derive(Clone, Copy)]
-pub enum Reply {
-    Done,
-    Refused(Refusal),
-    NoSuchAxis(u8),
-}
-
-impl fmt::Display for Reply {
-    fn fmt<W: fmt::Write>(&self, f: &mut fmt::Formatter<W>) -> fmt::Result {
-        match self {
-            Reply::Done => f.write_str("ok"),
-            Reply::Refused(Refusal::NotReady) => f.write_str("refused not ready"),
-            Reply::Refused(Refusal::Ended) => f.write_str("refused ended"),
-            Reply::NoSuchAxis(axis) => write!(f, "fault 1 axis axis {axis} program 0 block 0"),
-        }
     }
 }
 

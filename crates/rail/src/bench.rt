@@ -1,10 +1,12 @@
 ghost use Rattle.std.specs.Prelude.{◌≡◌};
 ghost use Rattle.rail.specs.Bench.{three_of, called_on, answers_on};
+ghost use Rattle.rail.specs.declared.bench.CallFault.TheVariants.{Refused};
 
-use crate::axis::{Axis, Build, Position, Reply};
+use crate::axis::{Axis, Build, Position};
 use crate::mistake::Mistake;
 use crate::script::Call;
-use drives::fault::DriveFault;
+use drives::fault::{DriveFault, Refusal};
+use std::fmt;
 
 /// The drives that a script asks for; an axis without one has a stage at 0.
 #[derive(Clone, Copy)]
@@ -41,6 +43,31 @@ fn make(build: Option<Build>) -> Result<Axis, DriveFault> {
     Axis::new(build.unwrap_or(Build::Clock { count: 0 }))
 }
 
+/// Why a call on an axis is turned away.
+#[derive(Clone, Copy, PartialEq, Eq, Debug)]
+pub enum CallFault {
+    Refused(Refusal),
+    NoSuchAxis(u8),
+}
+
+impl From<Refusal> for CallFault {
+    ghost from_gives = { λ e r. r ≡ Refused e };
+
+    fn from(e: Refusal) -> Self {
+        CallFault::Refused(e)
+    }
+}
+
+impl fmt::Display for CallFault {
+    fn fmt<W: fmt::Write>(&self, f: &mut fmt::Formatter<W>) -> fmt::Result {
+        match self {
+            CallFault::Refused(Refusal::NotReady) => f.write_str("refused not ready"),
+            CallFault::Refused(Refusal::Ended) => f.write_str("refused ended"),
+            CallFault::NoSuchAxis(axis) => write!(f, "fault 1 axis axis {axis} program 0 block 0"),
+        }
+    }
+}
+
 /// The three axes of the rail.
 #[derive(Drop)]
 pub struct Bench {
@@ -58,16 +85,17 @@ impl Bench {
         })
     }
 
-    pub fn call(&mut self, call: Call) -> Reply
+    pub fn call(&mut self, call: Call) -> Result<(), CallFault>
         ensures value { result ≡ answers_on call (three_of self.old) }
         ensures after { three_of self.new ≡ called_on call (three_of self.old) }
     {
-        match call.axis() {
-            1 => self.first.call(call),
-            2 => self.second.call(call),
-            3 => self.third.call(call),
-            axis => Reply::NoSuchAxis(axis),
+        match call.axis {
+            1 => self.first.call(call.ask)?,
+            2 => self.second.call(call.ask)?,
+            3 => self.third.call(call.ask)?,
+            axis => return Err(CallFault::NoSuchAxis(axis)),
         }
+        Ok(())
     }
 
     pub fn counts(&self) -> (i64, i64, i64)

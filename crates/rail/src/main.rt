@@ -42,10 +42,7 @@ fn run(rt: &HostRuntime) -> anyhow::Result<()> {
 
 fn explains(rt: &HostRuntime) -> anyhow::Result<bool> {
     let mut explain = false;
-    for (i, argument) in env::args(rt)?.enumerate() {
-        if i == 0 {
-            continue;
-        }
+    for argument in env::args(rt)?.skip(1) {
         if argument.as_str() != "--explain" {
             return Err(anyhow!("the only argument is --explain"));
         }

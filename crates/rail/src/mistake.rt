@@ -1,4 +1,5 @@
 use std::fmt;
+use thiserror::Error;
 
 /// A word that a line of the script must have.
 #[derive(Clone, Copy, PartialEq, Eq, Debug)]
@@ -18,7 +19,7 @@ pub enum Field {
 
 impl fmt::Display for Field {
     fn fmt<W: fmt::Write>(&self, f: &mut fmt::Formatter<W>) -> fmt::Result {
-        let text = match self {
+        f.write_str(match self {
             Field::Axis => "AXIS, a number from 0 to 255",
             Field::Begin => "BEGIN, 0 or 1",
             Field::End => "END, 0 or 1",
@@ -30,37 +31,29 @@ impl fmt::Display for Field {
             Field::Stage => "clock or takeup",
             Field::Measure => "MEASURE: mm, inch or degree",
             Field::Number => "NUMBER, a number from 0 to 255",
-        };
-        f.write_str(text)
+        })
     }
 }
 
 /// What is wrong with a line of the script.
-#[derive(Clone, Copy, PartialEq, Eq, Debug)]
+#[derive(Clone, Copy, PartialEq, Eq, Debug, Error)]
 pub enum Mistake {
+    #[error("no call begins with this word")]
     UnknownCall,
     /// The line ends before this word.
+    #[error("missing: {0}")]
     Missing(Field),
     /// The word here is not of this kind.
+    #[error("expected: {0}")]
     Expected(Field),
+    #[error("words after the end of the call")]
     TooManyWords,
+    #[error("a drive belongs to axis 1, 2 or 3")]
     NoSuchAxis,
+    #[error("a drive has at most two layers")]
     TooManyLayers,
+    #[error("this axis has a drive already")]
     DriveTwice,
+    #[error("a drive comes before the first call")]
     DriveAfterCall,
-}
-
-impl fmt::Display for Mistake {
-    fn fmt<W: fmt::Write>(&self, f: &mut fmt::Formatter<W>) -> fmt::Result {
-        match self {
-            Mistake::UnknownCall => f.write_str("no call begins with this word"),
-            Mistake::Missing(field) => write!(f, "missing: {field}"),
-            Mistake::Expected(field) => write!(f, "expected: {field}"),
-            Mistake::TooManyWords => f.write_str("words after the end of the call"),
-            Mistake::NoSuchAxis => f.write_str("a drive belongs to axis 1, 2 or 3"),
-            Mistake::TooManyLayers => f.write_str("a drive has at most two layers"),
-            Mistake::DriveTwice => f.write_str("this axis has a drive already"),
-            Mistake::DriveAfterCall => f.write_str("a drive comes before the first call"),
-        }
-    }
 }

@@ -7,46 +7,44 @@ use std::fmt;
 use store::fault::Place;
 use store::{Store, StoreFault};
 
-/// What a call on the store is answered.
-#[derive(Clone, Copy)]
-pub struct ProgramReply(Result<(), StoreFault>);
-
-impl ProgramReply {
-    pub fn to(call: ProgramCall, store: &mut Store) -> ProgramReply
-        ensures value { result.0 ≡ told_of call.entry (store_of store.old) }
-        ensures after { store_of store.new ≡ asked_of call.entry (store_of store.old) }
+impl ProgramCall<'_> {
+    /// Asks the store.
+    pub fn run(self, store: &mut Store) -> Result<(), StoreFault>
+        ensures value { result ≡ told_of self.entry (store_of store.old) }
+        ensures after { store_of store.new ≡ asked_of self.entry (store_of store.old) }
     {
-        ProgramReply(match call {
+        match self {
             ProgramCall::Open { number, measure } => store.open_number(number, measure),
             ProgramCall::Add { number, text } => store.add_line(number, text),
             ProgramCall::Close { number } => store.close_number(number),
             ProgramCall::Abandon { number } => store.abandon_number(number),
-        })
-    }
-
-    pub fn in_words(&self) -> &'static str {
-        match self.0 {
-            Ok(()) => "done",
-            Err(StoreFault::NotStored(_)) => "no such program is stored",
-            Err(StoreFault::OutOfRange(_)) => "a program has a number from 1 to 255",
-            Err(StoreFault::AlreadyStored(_)) => "this program is stored already",
-            Err(StoreFault::StoreFull(_)) => "sixteen programs are stored",
-            Err(StoreFault::EntryOpen(_)) => "another entry is open",
-            Err(StoreFault::NotOpen(_)) => "this entry is not the open one",
-            Err(StoreFault::Line(_)) => "the line is refused; the entry stays open",
-            Err(StoreFault::NotClosable(_)) =>
-                "the program lacks its end or a feed; the entry is over",
         }
     }
 }
 
-impl fmt::Display for ProgramReply {
+/// What a call on the store is answered, in words.
+pub fn in_words(reply: &Result<(), StoreFault>) -> &'static str {
+    match reply {
+        Ok(()) => "done",
+        Err(StoreFault::NotStored(_)) => "no such program is stored",
+        Err(StoreFault::OutOfRange(_)) => "a program has a number from 1 to 255",
+        Err(StoreFault::AlreadyStored(_)) => "this program is stored already",
+        Err(StoreFault::StoreFull(_)) => "sixteen programs are stored",
+        Err(StoreFault::EntryOpen(_)) => "another entry is open",
+        Err(StoreFault::NotOpen(_)) => "this entry is not the open one",
+        Err(StoreFault::Line(_)) => "the line is refused; the entry stays open",
+        Err(StoreFault::NotClosable(_)) => "the program lacks its end or a feed; the entry is over",
+    }
+}
+
+/// A fault of the store with its number and place.
+#[derive(Clone, Copy)]
+pub struct Located(pub StoreFault);
+
+impl fmt::Display for Located {
     fn fmt<W: fmt::Write>(&self, f: &mut fmt::Formatter<W>) -> fmt::Result {
-        let Err(fault) = self.0 else {
-            return f.write_str("ok");
-        };
-        let number = fault.number();
-        match fault.place() {
+        let number = self.0.number();
+        match self.0.place() {
             Place::Byte(at) => write!(f, "fault {number} line byte {at}"),
             Place::Program(program) => write!(
                 f,

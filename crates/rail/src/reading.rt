@@ -1,7 +1,7 @@
 ghost use Rattle.std.specs.Prelude.{◌≡◌};
 ghost use Rattle.reader.specs.Questions.{verdict};
 
-use reader::{Block, LineFault, read_line};
+use reader::{Block, LineFault, Motion, OffsetChoice, Way, read_line};
 use std::fmt;
 use units::Measure;
 
@@ -47,22 +47,13 @@ impl fmt::Display for Reading {
 // G words come in the order motion, offset, way; a `-` stands for what is absent.
 fn write_block<W: fmt::Write>(block: &Block, f: &mut fmt::Formatter<W>) -> fmt::Result {
     f.write_str("block n")?;
-    match block.number {
-        Some(n) => write!(f, " {n}")?,
-        None => f.write_str(" -")?,
-    }
+    write_or_dash(block.number, f)?;
     f.write_str(" g")?;
     write_choices(block, f)?;
     f.write_str(" x")?;
-    match block.target {
-        Some(x) => write!(f, " {x}")?,
-        None => f.write_str(" -")?,
-    }
+    write_or_dash(block.target, f)?;
     f.write_str(" f")?;
-    match block.feed {
-        Some(feed) => write!(f, " {feed}")?,
-        None => f.write_str(" -")?,
-    }
+    write_or_dash(block.feed, f)?;
     f.write_str(" m")?;
     match block.auxiliary {
         Some(m) => write!(f, " {m:02}"),
@@ -70,21 +61,27 @@ fn write_block<W: fmt::Write>(block: &Block, f: &mut fmt::Formatter<W>) -> fmt::
     }
 }
 
+fn write_or_dash<T: fmt::Display + Drop, W: fmt::Write>(
+    value: Option<T>,
+    f: &mut fmt::Formatter<W>,
+) -> fmt::Result {
+    match value {
+        Some(value) => write!(f, " {value}"),
+        None => f.write_str(" -"),
+    }
+}
+
 fn write_choices<W: fmt::Write>(block: &Block, f: &mut fmt::Formatter<W>) -> fmt::Result {
-    if block.motion.is_none() && block.offset.is_none() && block.way.is_none() {
+    let codes = [
+        block.motion.map(Motion::code),
+        block.offset.map(OffsetChoice::code),
+        block.way.map(Way::code),
+    ];
+    if codes.iter().all(Option::is_none) {
         return f.write_str(" -");
     }
-    if let Some(motion) = block.motion {
-        let g = motion.code();
-        write!(f, " {g:02}")?;
-    }
-    if let Some(offset) = block.offset {
-        let g = offset.code();
-        write!(f, " {g:02}")?;
-    }
-    if let Some(way) = block.way {
-        let g = way.code();
-        write!(f, " {g:02}")?;
+    for code in codes.iter().flatten() {
+        write!(f, " {code:02}")?;
     }
     Ok(())
 }

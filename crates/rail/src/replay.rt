@@ -1,43 +1,22 @@
 use crate::bench::{Bench, Plan};
 use crate::mistake::Mistake;
-use crate::programs::ProgramReply;
+use crate::programs::{Located, in_words};
 use crate::reading::Reading;
 use crate::script::{Line, read_line};
 use drives::fault::DriveFault;
 use std::fmt;
 use store::Store;
+use thiserror::Error;
 
 /// Why a script was not run to its end.
-#[derive(Drop)]
+#[derive(Debug, Drop, Error)]
 pub enum Stop {
+    #[error("script line {line}: {mistake}")]
     Script { line: usize, mistake: Mistake },
-    Drive(DriveFault),
-    Output(anyhow::Error),
-}
-
-impl fmt::Display for Stop {
-    fn fmt<W: fmt::Write>(&self, f: &mut fmt::Formatter<W>) -> fmt::Result {
-        match self {
-            Stop::Script { line, mistake } => write!(f, "script line {line}: {mistake}"),
-            Stop::Drive(fault) => {
-                let number = fault.number();
-                write!(f, "fault {number} drive axis 0 program 0 block 0")
-            }
-            Stop::Output(error) => write!(f, "{error}"),
-        }
-    }
-}
-
-impl From<DriveFault> for Stop {
-    fn from(fault: DriveFault) -> Stop {
-        Stop::Drive(fault)
-    }
-}
-
-impl From<anyhow::Error> for Stop {
-    fn from(error: anyhow::Error) -> Stop {
-        Stop::Output(error)
-    }
+    #[error("fault {number} drive axis 0 program 0 block 0", number = .0.number())]
+    Drive(#[from] DriveFault),
+    #[error(transparent)]
+    Output(#[from] anyhow::Error),
 }
 
 /// Makes the drives and the store, then each call in turn, and prints its answer.
@@ -47,14 +26,14 @@ pub fn replay(rt: &HostRuntime, lines: &[&[u8]], explain: bool) -> Result<(), St
     let mut store = new_store(rt)?;
     let mut calling = false;
     for (i, line) in lines.iter().enumerate() {
-        let read = read(*line, i)?;
-        if let Line::Drive { .. } = read
-            && calling
-        {
+        let Some(line) = read(*line, i)? else {
+            continue;
+        };
+        if calling && !line.is_call() {
             return Err(mistake_at(i, Mistake::DriveAfterCall));
         }
-        calling = calling || read.is_call();
-        answer(rt, &mut bench, &mut store, read, explain)?;
+        calling = line.is_call();
+        answer(rt, &mut bench, &mut store, line, explain)?;
     }
     if explain {
         account(rt, &bench)?;
@@ -71,23 +50,18 @@ fn plan_drives(lines: &[&[u8]]) -> Result<Plan, Stop> {
     let mut plan = Plan::new();
     for (i, line) in lines.iter().enumerate() {
         match read(*line, i)? {
-            Line::Passed => {}
-            Line::Drive { axis, build } => {
-                if let Err(mistake) = plan.add(axis, build) {
-                    return Err(mistake_at(i, mistake));
-                }
-            }
-            _ => break,
+            None => {}
+            Some(Line::Drive { axis, build }) => plan
+                .add(axis, build)
+                .map_err(|mistake| mistake_at(i, mistake))?,
+            Some(_) => break,
         }
     }
     Ok(plan)
 }
 
-fn read<'a>(line: &'a [u8], index: usize) -> Result<Line<'a>, Stop> {
-    match read_line(line) {
-        Ok(read) => Ok(read),
-        Err(mistake) => Err(mistake_at(index, mistake)),
-    }
+fn read<'a>(line: &'a [u8], index: usize) -> Result<Option<Line<'a>>, Stop> {
+    read_line(line).map_err(|mistake| mistake_at(index, mistake))
 }
 
 // Lines are counted from 1.
@@ -107,12 +81,12 @@ fn answer(
     explain: bool,
 ) -> anyhow::Result<()> {
     match line {
-        Line::Passed | Line::Drive { .. } => Ok(()),
+        Line::Drive { .. } => Ok(()),
         Line::Call(call) => {
             let reply = bench.call(call);
-            show(rt, bench, &reply)?;
+            show_reply(rt, bench, &reply)?;
             if explain {
-                place(rt, bench, call.axis())
+                place(rt, bench, call.axis)
             } else {
                 Ok(())
             }
@@ -127,14 +101,25 @@ fn answer(
             }
         }
         Line::Program(call) => {
-            let reply = ProgramReply::to(call, store);
-            show(rt, bench, &reply)?;
+            let reply = call.run(store);
+            show_reply(rt, bench, &reply.map_err(Located))?;
             if explain {
-                say(rt, reply.in_words())
+                say(rt, in_words(&reply))
             } else {
                 Ok(())
             }
         }
+    }
+}
+
+fn show_reply<E: fmt::Display>(
+    rt: &HostRuntime,
+    bench: &Bench,
+    reply: &Result<(), E>,
+) -> anyhow::Result<()> {
+    match reply {
+        Ok(()) => show(rt, bench, &"ok"),
+        Err(fault) => show(rt, bench, fault),
     }
 }
 

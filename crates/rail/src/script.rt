@@ -1,17 +1,12 @@
-ghost use Rattle.std.specs.Prelude.{◌≡◌};
-ghost use Rattle.rail.specs.Bench.{axis_of};
-
 use crate::axis::Build;
 use crate::mistake::{Field, Mistake};
 use crate::words::Words;
 use drives::direction::Direction;
 use units::Measure;
 
-/// One line of a script.
+/// One line of a script that says something.
 #[derive(Clone, Copy)]
 pub enum Line<'a> {
-    /// An empty line or a remark.
-    Passed,
     Drive { axis: u8, build: Build },
     Call(Call),
     /// A program line for the reader alone, in a program without blocks.
@@ -22,10 +17,7 @@ pub enum Line<'a> {
 impl Line<'_> {
     /// Whether the line is a call; `read` counts as one.
     pub fn is_call(&self) -> bool {
-        match self {
-            Line::Passed | Line::Drive { .. } => false,
-            Line::Call(_) | Line::Read { .. } | Line::Program(_) => true,
-        }
+        !matches!(self, Line::Drive { .. })
     }
 }
 
@@ -38,35 +30,24 @@ pub enum ProgramCall<'a> {
     Abandon { number: u8 },
 }
 
+/// A call on an axis: any number, and what is asked of it.
+#[derive(Clone, Copy)]
+pub struct Call {
+    pub axis: u8,
+    pub ask: Ask,
+}
+
 /// What is asked of an axis.
 #[derive(Clone, Copy)]
-pub enum Call {
-    Levels {
-        axis: u8,
-        ready: bool,
-    },
-    Pulse {
-        axis: u8,
-        direction: Direction,
-        pulses: u32,
-    },
+pub enum Ask {
+    Level { ready: bool },
+    Pulses { direction: Direction, pulses: u32 },
 }
 
-impl Call {
-    pub fn axis(self) -> u8
-        ensures { result ≡ axis_of self }
-    {
-        match self {
-            Call::Levels { axis, .. } => axis,
-            Call::Pulse { axis, .. } => axis,
-        }
-    }
-}
-
-/// Reads a line of the script, its end left off.
-pub fn read_line<'a>(line: &'a [u8]) -> Result<Line<'a>, Mistake> {
-    if let [] | [b'#', ..] = line {
-        return Ok(Line::Passed);
+/// Reads a line of the script, its end left off: none where it is empty or a remark.
+pub fn read_line<'a>(line: &'a [u8]) -> Result<Option<Line<'a>>, Mistake> {
+    if line.is_empty() || line.starts_with(b"#") {
+        return Ok(None);
     }
     let mut words = Words::new(line);
     let read = match words.next() {
@@ -80,26 +61,26 @@ pub fn read_line<'a>(line: &'a [u8]) -> Result<Line<'a>, Mistake> {
         }
         Some(b"open") => Line::Program(read_open(&mut words)?),
         Some(b"add") => {
-            let number = words.u8(Field::Number)?;
+            let number = words.number(Field::Number)?;
             let text = words.take_text();
             Line::Program(ProgramCall::Add { number, text })
         }
         Some(b"close") => {
-            let number = words.u8(Field::Number)?;
+            let number = words.number(Field::Number)?;
             Line::Program(ProgramCall::Close { number })
         }
         Some(b"abandon") => {
-            let number = words.u8(Field::Number)?;
+            let number = words.number(Field::Number)?;
             Line::Program(ProgramCall::Abandon { number })
         }
         _ => return Err(Mistake::UnknownCall),
     };
     words.end()?;
-    Ok(read)
+    Ok(Some(read))
 }
 
 fn read_drive<'a>(words: &mut Words) -> Result<Line<'a>, Mistake> {
-    let axis = words.u8(Field::Axis)?;
+    let axis = words.number(Field::Axis)?;
     let build = read_build(words)?;
     Ok(Line::Drive { axis, build })
 }
@@ -128,22 +109,25 @@ fn read_build(words: &mut Words) -> Result<Build, Mistake> {
 fn read_layer(words: &mut Words) -> Result<Option<u16>, Mistake> {
     match words.word(Field::Stage)? {
         b"clock" => Ok(None),
-        b"takeup" => Ok(Some(words.u16(Field::Play)?)),
+        b"takeup" => Ok(Some(words.number(Field::Play)?)),
         _ => Err(Mistake::Expected(Field::Stage)),
     }
 }
 
 // The limit switches act on an axis, and not on its drive.
 fn read_levels(words: &mut Words) -> Result<Call, Mistake> {
-    let axis = words.u8(Field::Axis)?;
+    let axis = words.number(Field::Axis)?;
     let _begin = words.flag(Field::Begin)?;
     let _end = words.flag(Field::End)?;
     let ready = words.flag(Field::Ready)?;
-    Ok(Call::Levels { axis, ready })
+    Ok(Call {
+        axis,
+        ask: Ask::Level { ready },
+    })
 }
 
 fn read_pulse(words: &mut Words) -> Result<Call, Mistake> {
-    let axis = words.u8(Field::Axis)?;
+    let axis = words.number(Field::Axis)?;
     let direction = match words.word(Field::Direction)? {
         b"forward" => Direction::Forward,
         b"backward" => Direction::Backward,
@@ -151,12 +135,11 @@ fn read_pulse(words: &mut Words) -> Result<Call, Mistake> {
     };
     let pulses = match words.end() {
         Ok(()) => 1,
-        Err(_) => words.u32(Field::Pulses)?,
+        Err(_) => words.number(Field::Pulses)?,
     };
-    Ok(Call::Pulse {
+    Ok(Call {
         axis,
-        direction,
-        pulses,
+        ask: Ask::Pulses { direction, pulses },
     })
 }
 
@@ -170,7 +153,7 @@ fn read_measure(words: &mut Words) -> Result<Measure, Mistake> {
 }
 
 fn read_open<'a>(words: &mut Words) -> Result<ProgramCall<'a>, Mistake> {
-    let number = words.u8(Field::Number)?;
+    let number = words.number(Field::Number)?;
     let measure = read_measure(words)?;
     Ok(ProgramCall::Open { number, measure })
 }
