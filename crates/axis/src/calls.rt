@@ -1,5 +1,5 @@
 ghost use Rattle.std.specs.Prelude.{◌≡◌};
-ghost use Rattle.states.specs.Observation.{observed};
+ghost use Rattle.states.specs.Observation.{shown_by, observed};
 ghost use Rattle.states.specs.Entry.{enter_reply, delete_reply};
 ghost use Rattle.store.specs.Programs.{store_of};
 ghost use Rattle.orders.specs.Orders.{order_reply};
@@ -9,7 +9,7 @@ ghost use Rattle.axis.specs.View.{state_of};
 use crate::{Axis, Levels};
 use drives::drive::Drive;
 use motion::RawData;
-use states::{AxisFault, Observation, Order, Switches};
+use states::{AxisFault, Observation, Order};
 use store::Store;
 
 impl<D: Drive> Axis<D> {
@@ -41,18 +41,15 @@ impl<D: Drive> Axis<D> {
 
     /// The limit switches and the drive's readiness; nothing else changes.
     pub fn level(&mut self, levels: Levels)
-        ensures { state_of D.Drive.meaning self.new ≡ levels_step levels.begin levels.end levels.ready (state_of D.Drive.meaning self.old) }
+        ensures { state_of D.Drive.meaning self.new ≡ levels_step levels.switches.begin levels.switches.end levels.ready (state_of D.Drive.meaning self.old) }
     {
-        self.status.switches = Switches {
-            begin: levels.begin,
-            end: levels.end,
-        };
+        self.status.switches = levels.switches;
         self.drive.level(levels.ready);
     }
 
     /// Mode, M number, coordinate, shift, actual value, rest, fault and feedback byte; nothing changes.
     pub fn observe(&self) -> Observation
-        ensures { result ≡ observed (state_of D.Drive.meaning self.now).status }
+        ensures { shown_by result ≡ observed (state_of D.Drive.meaning self.now).status }
     {
         self.status.observe()
     }

@@ -2,17 +2,16 @@
 #![tactic(auto)]
 
 use drives::drive::Drive;
-use states::Record;
+use states::{Record, Switches};
 
 mod calls;
 mod made;
 mod tick;
 
 /// The two limit switches and the drive's readiness, as a host tells them.
-#[derive(Clone, Copy, PartialEq, Eq, Debug)]
+#[derive(Clone, Copy, PartialEq, Eq, Default, Debug)]
 pub struct Levels {
-    pub begin: bool,
-    pub end: bool,
+    pub switches: Switches,
     pub ready: bool,
 }
 

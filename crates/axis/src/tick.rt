@@ -2,39 +2,40 @@ ghost use Rattle.std.specs.Prelude.{◌≡◌};
 ghost use Rattle.drives.specs.Sending.{sent};
 ghost use Rattle.motion.specs.Travel.{Going};
 ghost use Rattle.store.specs.Programs.{store_of};
-ghost use Rattle.states.specs.View.{raw_in, going_in, travel_of};
-ghost use Rattle.states.specs.Moves.{ticked_in, braked_in};
+ghost use Rattle.states.specs.View.{reading_of, raw_in, going_in, travel_of};
+ghost use Rattle.states.specs.Moves.{direction_of, ticked_in, braked_in};
 ghost use Rattle.ticks.specs.Ticks.{run_step, slow_step, tick_step, tick_reply};
 ghost use Rattle.ticks.specs.Moving.{trouble as trouble_for};
 ghost use Rattle.axis.specs.View.{state_of};
 
 use crate::{Axis, Levels};
-use drives::direction::Direction;
 use drives::drive::Drive;
 use drives::fault::DriveFault;
+use drives::send::send;
 use states::movers::{brake_in, tick_in};
-use states::{AxisFault, Cause, Journey, State, Switches};
+use states::{AxisFault, Cause, Journey, Reading, State};
 use store::Store;
 use ticks::blocks::take;
 use ticks::moving::{direction_of, fail, is_ahead, settle, settle_braking};
 
-// The pulses of a tick, however many. A refused one leaves the drive as it is, and so does each after it.
-fn send_all<D: Drive>(drive: &mut D, direction: Direction, pulses: u64)
-    ensures { D.Drive.meaning drive.new ≡ sent direction pulses (D.Drive.meaning drive.old) }
-{
-    for _i in 0..pulses {
-        let _ = drive.pulse(direction);
-    }
-}
-
+// A tick and a braking tick differ in what they run and in what they leave, and share what is between.
 impl<D: Drive> Axis<D> {
+    // Sends the pulses of a tick. A refused one leaves the drive as it is, and so does each after it.
+    fn pulse(&mut self, journey: Journey, pulses: u64) -> Reading
+        ensures sent { D.Drive.meaning self.new.drive ≡ sent (direction_of journey.distance) pulses (D.Drive.meaning self.old.drive) }
+        ensures status { self.new.status ≡ self.old.status }
+        ensures reading { reading_of result ≡ D.Drive.meaning self.new.drive }
+    {
+        let _ = send(&mut self.drive, direction_of(journey), pulses);
+        self.reading()
+    }
+
     // A tick of motion.
     fn run_on(&mut self, journey: Journey)
         ensures { state_of D.Drive.meaning self.new ≡ run_step (ticked_in (raw_in self.old.status.machine) (going_in self.old.status.machine)) (travel_of (going_in self.old.status.machine) journey) (state_of D.Drive.meaning self.old) }
     {
         let passed = tick_in(&mut self.status.machine);
-        send_all(&mut self.drive, direction_of(journey), passed.pulses);
-        let reading = self.reading();
+        let reading = self.pulse(journey, passed.pulses);
         settle(&mut self.status, journey, reading, passed.ended);
     }
 
@@ -43,8 +44,7 @@ impl<D: Drive> Axis<D> {
         ensures { state_of D.Drive.meaning self.new ≡ slow_step (braked_in (raw_in self.old.status.machine) (going_in self.old.status.machine)) (travel_of (going_in self.old.status.machine) journey) (state_of D.Drive.meaning self.old) }
     {
         let passed = brake_in(&mut self.status.machine);
-        send_all(&mut self.drive, direction_of(journey), passed.pulses);
-        let reading = self.reading();
+        let reading = self.pulse(journey, passed.pulses);
         settle_braking(&mut self.status, journey, reading, passed.ended);
     }
 }
@@ -84,11 +84,10 @@ impl<D: Drive> Axis<D> {
     }
 
     fn levels(&self) -> Levels
-        ensures { result ≡ record { begin = self.now.status.switches.begin; end = self.now.status.switches.end; ready = (state_of D.Drive.meaning self.now).drive.ready } }
+        ensures { result ≡ record { switches = self.now.status.switches; ready = (state_of D.Drive.meaning self.now).drive.ready } }
     {
         Levels {
-            begin: self.status.switches.begin,
-            end: self.status.switches.end,
+            switches: self.status.switches,
             ready: self.drive.ready(),
         }
     }
@@ -96,16 +95,12 @@ impl<D: Drive> Axis<D> {
 
 // 24, then 23.
 fn trouble(journey: Journey, levels: Levels) -> Option<Cause>
-    ensures { result ≡ trouble_for journey.distance levels.ready levels.begin levels.end }
+    ensures { result ≡ trouble_for journey.distance levels.ready levels.switches.begin levels.switches.end }
 {
     if !levels.ready {
         return Some(Cause::OfDrive(DriveFault::NotReadyInMotion));
     }
-    let switches = Switches {
-        begin: levels.begin,
-        end: levels.end,
-    };
-    if is_ahead(journey, switches) {
+    if is_ahead(journey, levels.switches) {
         return Some(Cause::SwitchAhead);
     }
     None

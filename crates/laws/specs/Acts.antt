@@ -6,7 +6,7 @@ use Rattle.store.specs.Programs.{Programs}
 use Rattle.states.specs.declared.order.Order.{Order}
 use Rattle.states.specs.declared.fault.AxisFault.{AxisFault}
 use Rattle.states.specs.State.{standing, Work, Status, AxisState}
-use Rattle.states.specs.Entry.{enter_step, enter_reply, delete_step, delete_reply}
+use Rattle.states.specs.Entry.{new_status, enter_step, enter_reply, delete_step, delete_reply}
 use Rattle.orders.specs.Orders.{order_step, order_reply}
 use Rattle.ticks.specs.Ticks.{with_status, tick_step, tick_reply}
 
@@ -50,12 +50,6 @@ act_reply (levelling begin end ready) p a = Ok tt
 act_reply ticking p a = tick_reply p a
 
 -- a new axis on a drive: all levels off, mode 4, the rest empty or 0
-abbrev pub new_work : Work
-new_work = record { mode = 4; auxiliary = 2; fault = None; offset = pos 0; tool = pos 0; coordinate = pos 0; zero = pos 0; referenced = false; in_position = false; phase = standing }
-
-abbrev pub new_status : Status
-new_status = record { begin = false; end = false; machine = None; work = new_work }
-
 abbrev pub new_axis : Meaning → AxisState
 new_axis m = record { drive = levelled false m; status = new_status }
 

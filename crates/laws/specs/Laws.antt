@@ -8,7 +8,7 @@ use Rattle.states.specs.declared.order.Order.{Order}
 use Rattle.states.specs.State.{Travel, Phase, standing, moving, braking, held, between, AxisState, stands, course_of}
 use Rattle.states.specs.Moves.{direction_of, ticked_in, braked_in}
 use Rattle.states.specs.Shift.{shift_of}
-use Rattle.orders.specs.Tasks.{stops}
+use Rattle.orders.specs.Modes.{stops}
 use Rattle.ticks.specs.Ticks.{trouble_of}
 use Rattle.laws.specs.Acts.{Act, entering, deleting, ordering, levelling, ticking, Event, act_reply, step, new_axis, after, ticks}
 use Rattle.laws.specs.Kept.{Kept}

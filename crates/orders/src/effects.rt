@@ -111,20 +111,13 @@ fn go_on(state: &mut State)
     }
 }
 
-fn reference_pulses(machine: &MachineData) -> i64
-    ensures value { result ≡ pulses_by (data_of machine.now) (data_of machine.now).reference }
-    ensures small { unsigned_abs result ≤ 50000000000000 }
-{
-    let values = machine.values();
-    machine.pulses_of(values.reference)
-}
-
 // The count at zero that makes the reference coordinate the place where the drive is.
 fn zero_of(machine: &MachineData, reading: Reading) -> i64
     ensures value { result ≡ ((reading_of reading).count -ℤ pulses_by (data_of machine.now) (data_of machine.now).reference) }
     ensures small { unsigned_abs result ≤ 100000000000000 }
 {
-    let pulses = reference_pulses(machine);
+    let reference = machine.values().reference;
+    let pulses = machine.pulses_of(reference);
     reading.count - pulses
 }
 

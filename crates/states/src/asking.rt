@@ -120,14 +120,14 @@ impl AxisView<'_> {
     fn distance(&self, target: i32) -> i64
         ensures { result ≡ distance_to (data_of self.now.machine.now) target (reading_of self.now.reading) self.now.work.now.zero }
     {
-        self.pulses(target) - self.work.from_zero(self.reading)
+        self.machine.pulses_of(target) - self.work.from_zero(self.reading)
     }
 
     // The drive's count at the target.
     fn count_at(&self, target: i32) -> i64
         ensures { result ≡ (self.now.work.now.zero +ℤ pulses_by (data_of self.now.machine.now) target) }
     {
-        let pulses = self.pulses(target);
+        let pulses = self.machine.pulses_of(target);
         self.work.zero + pulses
     }
 
@@ -137,13 +137,5 @@ impl AxisView<'_> {
     {
         let count = self.count_at(target);
         self.reading.least <= count && count <= self.reading.greatest
-    }
-
-    // The pulses from zero to a target.
-    fn pulses(&self, target: i32) -> i64
-        ensures value { result ≡ pulses_by (data_of self.now.machine.now) target }
-        ensures small { unsigned_abs result ≤ 50000000000000 }
-    {
-        self.machine.pulses_of(target)
     }
 }

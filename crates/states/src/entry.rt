@@ -24,7 +24,7 @@ impl State {
 fn checked(raw: RawData) -> Result<MachineData, Cause>
     ensures { Checked raw result }
 {
-    Ok(MachineData::checked(raw)?)
+    Ok(MachineData::try_from(raw)?)
 }
 
 impl Record {

@@ -1,4 +1,4 @@
-ghost use Rattle.std.specs.Prelude.{◌≡◌, min};
+ghost use Rattle.std.specs.Prelude.{◌≡◌};
 ghost use Rattle.std.specs.Fn.{FnOnceReturnsAtMut};
 ghost use Rattle.motion.specs.Travel.{passing};
 ghost use Rattle.states.specs.View.{raw_in, going_in};
@@ -16,10 +16,7 @@ fn step_in<F: FnOnce(&mut Mover) -> Passed>(machine: &mut Option<Mover>, step: F
 {
     match machine {
         Some(mover) => step(mover),
-        None => Passed {
-            pulses: 0,
-            ended: true,
-        },
+        None => Passed::STANDING,
     }
 }
 
@@ -50,13 +47,6 @@ pub fn begin_in(machine: &mut Option<Mover>, aim: Aim)
     ensures after { going_in machine.new ≡ begun_in (raw_in machine.old) aim }
 {
     if let Some(mover) = machine {
-        mover.begin(narrowed(aim.rate), aim.distance);
+        mover.begin(aim.rate, aim.distance);
     }
-}
-
-// A rate past 32 bits is above every maximum frequency, and is held to it like the greatest of 32 bits.
-fn narrowed(rate: u64) -> u32
-    ensures { result ≡ min rate 4294967295 }
-{
-    rate.min(u32::MAX as u64) as u32
 }
