@@ -1,14 +1,14 @@
-ghost use Rattle.std.specs.Prelude.{◌≡◌, ◌≤◌, true, ◌&&◌, pos, negsuc, ◌+ℤ◌, ◌-ℤ◌, ◌≤ℤ◌, int_le, nat_le, unsigned_abs};
+ghost use Rattle.std.specs.Prelude.{◌≡◌, ◌≤◌, ◌&&◌, cond, Some, None, ◌+ℤ◌, int_le, nat_le, unsigned_abs, IfSome, option_map};
 ghost use Rattle.motion.specs.Entry.{data_of};
-ghost use Rattle.states.specs.View.{reading_of};
-ghost use Rattle.states.specs.Moves.{lowest_of, highest_of, distance_to, ready_verdict, way_verdict, move_verdict};
 ghost use Rattle.motion.specs.Places.{pulses_by};
+ghost use Rattle.states.specs.View.{reading_of, raw_in};
+ghost use Rattle.states.specs.Moves.{lowest_of, highest_of, distance_to, aim_for, way_verdict, move_verdict};
 
 use crate::aim::{Aim, Wish};
 use crate::fault::Cause;
 use crate::reading::Reading;
+use crate::record::Record;
 use crate::working::Working;
-use drives::fault::DriveFault;
 use motion::MachineData;
 
 // The greatest coordinate of a jog without a reference.
@@ -21,129 +21,129 @@ pub struct Span {
     pub high: i32,
 }
 
-/// 18 to 21: may the axis move so? The first no gives the cause.
-pub fn ask_move(
-    work: &Working,
-    machine: &MachineData,
-    reading: Reading,
-    wish: Wish,
-) -> Result<Aim, Cause>
-    ensures { result ≡ move_verdict (data_of machine.now) wish.rate wish.target (reading_of reading) work.now.zero work.now.referenced }
-{
-    if !rate_fits(machine, wish) {
-        return Err(Cause::RateOutside);
-    }
-    if !limits(work, machine).holds(wish) {
-        return Err(Cause::TargetOutside);
-    }
-    ask_way(work, machine, reading, narrowed(wish))
-}
-
-// 20 and 21, of a target that is within the limits.
-fn ask_way(work: &Working, machine: &MachineData, reading: Reading, aim: Aim) -> Result<Aim, Cause>
-    ensures { result ≡ way_verdict (data_of machine.now) aim.rate aim.target (reading_of reading) work.now.zero }
-{
-    let aim = aimed(work, machine, reading, aim);
-    if !count_fits(work, machine, reading, aim) {
-        return Err(Cause::CountOutside);
-    }
-    ask_ready(reading)?;
-    Ok(aim)
-}
-
-/// 21, asked of a move before it begins.
-pub fn ask_ready(reading: Reading) -> Result<(), DriveFault>
-    ensures { result ≡ ready_verdict (reading_of reading) }
-{
-    if reading.ready {
-        Ok(())
-    } else {
-        Err(DriveFault::NotReadyToMove)
-    }
-}
-
-fn rate_fits(machine: &MachineData, wish: Wish) -> bool
-    ensures { result ≡ (nat_le 1 wish.rate && nat_le wish.rate (data_of machine.now).fm) }
-{
-    1 <= wish.rate && wish.rate <= machine.values().fm as u64
-}
-
-/// The limits of the machine data; without a reference those of a jog.
-pub fn limits(work: &Working, machine: &MachineData) -> Span
-    ensures { result ≡ record { low = lowest_of (data_of machine.now) work.now.referenced; high = highest_of (data_of machine.now) work.now.referenced } }
-{
-    if !work.referenced {
-        return Span {
-            low: -FARTHEST,
-            high: FARTHEST,
-        };
-    }
-    let values = machine.values();
-    Span {
-        low: values.low,
-        high: values.high,
-    }
-}
-
 impl Span {
-    fn holds(self, wish: Wish) -> bool
-        ensures value { result ≡ (int_le self.low wish.target && int_le wish.target self.high) }
-        ensures fits { result ≡ true → (negsuc 2147483647 ≤ℤ wish.target) × (wish.target ≤ℤ pos 2147483647) }
+    // The target of a wish that stays within.
+    fn target_of(self, wish: Wish) -> Option<i32>
+        ensures { result ≡ cond (int_le self.low wish.target && int_le wish.target self.high) (Some wish.target) None }
     {
-        self.low as i64 <= wish.target && wish.target <= self.high as i64
+        if self.low as i64 <= wish.target && wish.target <= self.high as i64 {
+            Some(wish.target as i32)
+        } else {
+            None
+        }
     }
 }
 
-// The wish in the types of a move, its distance still 0; only of one that 19 has passed.
-fn narrowed(wish: Wish) -> Aim
-    requires low { negsuc 2147483647 ≤ℤ wish.target }
-    requires high { wish.target ≤ℤ pos 2147483647 }
-    ensures { result ≡ record { target = wish.target; rate = wish.rate; distance = pos 0 } }
-{
-    Aim {
-        target: wish.target as i32,
-        rate: wish.rate,
-        distance: 0,
+/// An axis that has machine data, with what its drive reads: all that is asked when a move is to begin.
+#[derive(Clone, Copy)]
+pub struct AxisView<'a> {
+    pub work: &'a Working,
+    pub machine: &'a MachineData,
+    pub reading: Reading,
+}
+
+impl Record {
+    /// The axis with what its drive reads; none without machine data.
+    pub fn view(&self, reading: Reading) -> Option<AxisView<'_>>
+        ensures machine { option_map (λ view. data_of view.machine.now) result ≡ raw_in self.now.machine }
+        ensures work { IfSome result (λ view. view.work.now ≡ self.now.work) }
+        ensures reading { IfSome result (λ view. view.reading ≡ reading) }
+    {
+        let mover = self.machine.as_ref()?;
+        Some(AxisView {
+            work: &self.work,
+            machine: mover.machine(),
+            reading,
+        })
     }
 }
 
-// The pulses from zero to the target.
-fn target_pulses(machine: &MachineData, aim: Aim) -> i64
-    ensures value { result ≡ pulses_by (data_of machine.now) aim.target }
-    ensures small { unsigned_abs result ≤ 50000000000000 }
-{
-    machine.pulses_of(aim.target)
-}
-
-fn distance(work: &Working, machine: &MachineData, reading: Reading, aim: Aim) -> i64
-    ensures { result ≡ distance_to (data_of machine.now) aim.target (reading_of reading) work.now.zero }
-{
-    let pulses = target_pulses(machine, aim);
-    let here = work.from_zero(reading);
-    pulses - here
-}
-
-/// The aim with its distance, whatever distance it has.
-pub fn aimed(work: &Working, machine: &MachineData, reading: Reading, aim: Aim) -> Aim
-    ensures { result ≡ record { target = aim.target; rate = aim.rate; distance = distance_to (data_of machine.now) aim.target (reading_of reading) work.now.zero } }
-{
-    Aim {
-        distance: distance(work, machine, reading, aim),
-        ..aim
+impl AxisView<'_> {
+    /// 18 to 21: may the axis move so? The first no gives the cause.
+    pub fn ask_move(&self, wish: Wish) -> Result<Aim, Cause>
+        ensures { result ≡ move_verdict (data_of self.now.machine.now) wish.rate wish.target (reading_of self.now.reading) self.now.work.now.zero self.now.work.now.referenced }
+    {
+        if !self.rate_fits(wish) {
+            return Err(Cause::RateOutside);
+        }
+        let Some(target) = self.limits().target_of(wish) else {
+            return Err(Cause::TargetOutside);
+        };
+        self.ask_way(target, wish.rate)
     }
-}
 
-// The drive's count at the target.
-fn target_count(work: &Working, machine: &MachineData, aim: Aim) -> i64
-    ensures { result ≡ (work.now.zero +ℤ pulses_by (data_of machine.now) aim.target) }
-{
-    let pulses = target_pulses(machine, aim);
-    work.zero + pulses
-}
+    // 20 and 21, of a target that is within the limits.
+    fn ask_way(&self, target: i32, rate: u64) -> Result<Aim, Cause>
+        ensures { result ≡ way_verdict (data_of self.now.machine.now) rate target (reading_of self.now.reading) self.now.work.now.zero }
+    {
+        if !self.count_fits(target) {
+            return Err(Cause::CountOutside);
+        }
+        self.reading.ask_ready()?;
+        Ok(self.aim(target, rate))
+    }
 
-fn count_fits(work: &Working, machine: &MachineData, reading: Reading, aim: Aim) -> bool
-    ensures { result ≡ (int_le (reading_of reading).least (work.now.zero +ℤ pulses_by (data_of machine.now) aim.target) && int_le (work.now.zero +ℤ pulses_by (data_of machine.now) aim.target) (reading_of reading).greatest) }
-{
-    let count = target_count(work, machine, aim);
-    reading.least <= count && count <= reading.greatest
+    fn rate_fits(&self, wish: Wish) -> bool
+        ensures { result ≡ (nat_le 1 wish.rate && nat_le wish.rate (data_of self.now.machine.now).fm) }
+    {
+        (1..=self.machine.values().fm as u64).contains(&wish.rate)
+    }
+
+    /// The limits of the machine data; without a reference those of a jog.
+    pub fn limits(&self) -> Span
+        ensures { result ≡ record { low = lowest_of (data_of self.now.machine.now) self.now.work.now.referenced; high = highest_of (data_of self.now.machine.now) self.now.work.now.referenced } }
+    {
+        if !self.work.referenced {
+            return Span {
+                low: -FARTHEST,
+                high: FARTHEST,
+            };
+        }
+        let values = self.machine.values();
+        Span {
+            low: values.low,
+            high: values.high,
+        }
+    }
+
+    /// A move to a target, with its distance from where the drive is.
+    pub fn aim(&self, target: i32, rate: u64) -> Aim
+        ensures { result ≡ aim_for (data_of self.now.machine.now) rate target (reading_of self.now.reading) self.now.work.now.zero }
+    {
+        Aim {
+            target,
+            rate,
+            distance: self.distance(target),
+        }
+    }
+
+    fn distance(&self, target: i32) -> i64
+        ensures { result ≡ distance_to (data_of self.now.machine.now) target (reading_of self.now.reading) self.now.work.now.zero }
+    {
+        self.pulses(target) - self.work.from_zero(self.reading)
+    }
+
+    // The drive's count at the target.
+    fn count_at(&self, target: i32) -> i64
+        ensures { result ≡ (self.now.work.now.zero +ℤ pulses_by (data_of self.now.machine.now) target) }
+    {
+        let pulses = self.pulses(target);
+        self.work.zero + pulses
+    }
+
+    // That count lies between the drive's ends.
+    fn count_fits(&self, target: i32) -> bool
+        ensures { result ≡ (int_le (reading_of self.now.reading).least (self.now.work.now.zero +ℤ pulses_by (data_of self.now.machine.now) target) && int_le (self.now.work.now.zero +ℤ pulses_by (data_of self.now.machine.now) target) (reading_of self.now.reading).greatest) }
+    {
+        let count = self.count_at(target);
+        self.reading.least <= count && count <= self.reading.greatest
+    }
+
+    // The pulses from zero to a target.
+    fn pulses(&self, target: i32) -> i64
+        ensures value { result ≡ pulses_by (data_of self.now.machine.now) target }
+        ensures small { unsigned_abs result ≤ 50000000000000 }
+    {
+        self.machine.pulses_of(target)
+    }
 }
