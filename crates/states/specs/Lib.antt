@@ -3,6 +3,7 @@ pub mod Faults
 pub mod State
 pub mod View
 pub mod Moves
+pub mod Movers
 pub mod Shift
 pub mod Effects
 pub mod Courses

@@ -1,6 +1,8 @@
 ghost use Rattle.std.specs.Prelude.{◌≡◌, min};
+ghost use Rattle.std.specs.Fn.{FnOnceReturnsAtMut};
 ghost use Rattle.motion.specs.Travel.{passing};
 ghost use Rattle.states.specs.View.{raw_in, going_in};
+ghost use Rattle.states.specs.Movers.{Stepped};
 ghost use Rattle.states.specs.Moves.{ticked_in, braked_in, begun_in};
 
 use crate::aim::Aim;
@@ -8,45 +10,48 @@ use motion::{Mover, Passed};
 
 // Without machine data there is no move: each function then changes nothing.
 
+fn step_in<F: FnOnce(&mut Mover) -> Passed>(machine: &mut Option<Mover>, step: F) -> Passed
+    requires { F.IsAlwaysCallable step }
+    ensures { Stepped (FnOnceReturnsAtMut F.FnOnce step) machine.old result machine.new }
+{
+    match machine {
+        Some(mover) => step(mover),
+        None => Passed {
+            pulses: 0,
+            ended: true,
+        },
+    }
+}
+
 /// A tick of the move in progress.
+#[tactic(auto, unfolding(crate::specs::Moves::ticked_in))]
 pub fn tick_in(machine: &mut Option<Mover>) -> Passed
     ensures same { raw_in machine.new ≡ raw_in machine.old }
     ensures after { going_in machine.new ≡ ticked_in (raw_in machine.old) (going_in machine.old) }
     ensures value { result ≡ passing (going_in machine.old) (ticked_in (raw_in machine.old) (going_in machine.old)) }
 {
-    let Some(mover) = machine.as_mut() else {
-        return Passed {
-            pulses: 0,
-            ended: true,
-        };
-    };
-    mover.tick()
+    step_in(machine, |mover| mover.tick())
 }
 
 /// A braking tick of the move in progress.
+#[tactic(auto, unfolding(crate::specs::Moves::braked_in))]
 pub fn brake_in(machine: &mut Option<Mover>) -> Passed
     ensures same { raw_in machine.new ≡ raw_in machine.old }
     ensures after { going_in machine.new ≡ braked_in (raw_in machine.old) (going_in machine.old) }
     ensures value { result ≡ passing (going_in machine.old) (braked_in (raw_in machine.old) (going_in machine.old)) }
 {
-    let Some(mover) = machine.as_mut() else {
-        return Passed {
-            pulses: 0,
-            ended: true,
-        };
-    };
-    mover.brake()
+    step_in(machine, |mover| mover.brake())
 }
 
 /// A new move.
+#[tactic(auto, unfolding(crate::specs::Moves::begun_in))]
 pub fn begin_in(machine: &mut Option<Mover>, aim: Aim)
     ensures same { raw_in machine.new ≡ raw_in machine.old }
     ensures after { going_in machine.new ≡ begun_in (raw_in machine.old) aim }
 {
-    let Some(mover) = machine.as_mut() else {
-        return;
-    };
-    mover.begin(narrowed(aim.rate), aim.distance);
+    if let Some(mover) = machine {
+        mover.begin(narrowed(aim.rate), aim.distance);
+    }
 }
 
 // A rate past 32 bits is above every maximum frequency, and is held to it like the greatest of 32 bits.
