@@ -20,6 +20,9 @@ cleared zero w = record { mode = 4; auxiliary = 2; fault = w.fault; offset = pos
 abbrev pub new_work : Work
 new_work = record { mode = 4; auxiliary = 2; fault = None; offset = pos 0; tool = pos 0; coordinate = pos 0; zero = pos 0; referenced = false; in_position = false; phase = standing }
 
+abbrev pub new_status : Status
+new_status = record { begin = false; end = false; machine = None; work = new_work }
+
 abbrev pub with_data : Option RawData → Work → Status → Status
 with_data machine w s = record { begin = s.begin; end = s.end; machine = machine; work = w }
 
@@ -30,6 +33,10 @@ data_cause (Some e) = Some (OfData e)
 -- 4 and 5; making the ramp answers the last of them
 unfoldable pub data_refusal : RawData → Option Cause
 data_refusal d = data_cause (refusal d)
+
+-- 3
+abbrev pub standing_reply : Status → Result (Unit {0}) Cause
+standing_reply s = cond (stands s.work.phase) (Ok tt) (Err DataWhileBusy)
 
 -- 3, 4, 5
 abbrev pub enter_no : RawData → Status → Option Cause

@@ -30,11 +30,7 @@ pub fn fault_in(run: Option<Run>, cause: Cause) -> AxisFault
     ensures { result ≡ fault_in (course_if run) cause }
 {
     match run {
-        None => AxisFault {
-            cause,
-            program: 0,
-            block: 0,
-        },
+        None => cause.into(),
         Some(run) => AxisFault {
             cause,
             program: run.program,

@@ -1,11 +1,9 @@
-ghost use Rattle.std.specs.Prelude.{◌≡◌, Some, None};
+ghost use Rattle.std.specs.Prelude.{◌≡◌};
 ghost use Rattle.motion.specs.Travel.{Going};
 ghost use Rattle.states.specs.State.{stands};
-ghost use Rattle.states.specs.View.{reading_of, raw_in, phase_of, work_of, status_of};
-ghost use Rattle.states.specs.Effects.{fault_at};
-ghost use Rattle.states.specs.Entry.{cleared, enter_step, enter_reply, delete_step, delete_reply, Checked};
+ghost use Rattle.states.specs.View.{reading_of, phase_of, status_of};
+ghost use Rattle.states.specs.Entry.{standing_reply, enter_step, enter_reply, delete_step, delete_reply, Checked};
 
-use crate::effects::fault_in;
 use crate::fault::{AxisFault, Cause};
 use crate::reading::Reading;
 use crate::record::Record;
@@ -22,6 +20,7 @@ impl State {
 }
 
 // Machine data that pass 4 and 5.
+#[tactic(auto, unfolding(crate::specs::Entry::data_refusal))]
 fn checked(raw: RawData) -> Result<MachineData, Cause>
     ensures { Checked raw result }
 {
@@ -34,18 +33,12 @@ impl Record {
         ensures value { result ≡ enter_reply raw (status_of self.old) }
         ensures after { status_of self.new ≡ enter_step raw (reading_of reading) (status_of self.old) }
     {
-        if !self.work.state.stands() {
-            return Err(fault_in(None, Cause::DataWhileBusy));
-        }
-        match checked(raw) {
-            Ok(machine) => {
-                self.machine = Some(Mover::new(machine));
-                self.work.zero = reading.count;
-                self.work.clear();
-                Ok(())
-            }
-            Err(cause) => Err(fault_in(None, cause)),
-        }
+        self.ask_standing()?;
+        let machine = checked(raw)?;
+        self.machine = Some(Mover::new(machine));
+        self.work.zero = reading.count;
+        self.work.clear();
+        Ok(())
     }
 
     /// Deletes the machine data.
@@ -53,14 +46,23 @@ impl Record {
         ensures value { result ≡ delete_reply (status_of self.old) }
         ensures after { status_of self.new ≡ delete_step (status_of self.old) }
     {
-        if !self.work.state.stands() {
-            return Err(fault_in(None, Cause::DataWhileBusy));
-        }
+        self.ask_standing()?;
         if self.machine.is_none() {
-            return Err(fault_in(None, Cause::NoMachineData));
+            return Err(Cause::NoMachineData.into());
         }
         self.machine = None;
         self.work.clear();
         Ok(())
+    }
+
+    // 3
+    fn ask_standing(&self) -> Result<(), Cause>
+        ensures { result ≡ standing_reply (status_of self.now) }
+    {
+        if self.work.state.stands() {
+            Ok(())
+        } else {
+            Err(Cause::DataWhileBusy)
+        }
     }
 }

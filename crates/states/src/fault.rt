@@ -1,6 +1,7 @@
 ghost use Rattle.std.specs.Prelude.{◌≡◌};
-ghost use Rattle.states.specs.declared.fault.Cause.TheVariants.{OfDrive, OfData};
+ghost use Rattle.states.specs.declared.fault.Cause.TheVariants.{OfDrive, OfData, UnknownMode};
 ghost use Rattle.states.specs.Faults.{cause_number, cause_layer};
+ghost use Rattle.states.specs.Effects.{fault_at};
 
 use drives::fault::DriveFault;
 use motion::DataFault;
@@ -104,17 +105,38 @@ impl Cause {
 }
 
 impl From<DriveFault> for Cause {
-    ghost from_gives = { λ e r. r ≡ OfDrive e };
+    ghost from_gives = { λ fault cause. cause ≡ OfDrive fault };
 
-    fn from(e: DriveFault) -> Self {
-        Cause::OfDrive(e)
+    fn from(fault: DriveFault) -> Cause {
+        Cause::OfDrive(fault)
     }
 }
 
 impl From<DataFault> for Cause {
-    ghost from_gives = { λ e r. r ≡ OfData e };
+    ghost from_gives = { λ fault cause. cause ≡ OfData fault };
 
-    fn from(e: DataFault) -> Self {
-        Cause::OfData(e)
+    fn from(fault: DataFault) -> Cause {
+        Cause::OfData(fault)
+    }
+}
+
+impl From<crate::mode::UnknownMode> for Cause {
+    ghost from_gives = { λ _ cause. cause ≡ UnknownMode };
+
+    fn from(_unknown: crate::mode::UnknownMode) -> Cause {
+        Cause::UnknownMode
+    }
+}
+
+/// A fault at no program.
+impl From<Cause> for AxisFault {
+    ghost from_gives = { λ cause fault. fault ≡ fault_at 0 0 cause };
+
+    fn from(cause: Cause) -> AxisFault {
+        AxisFault {
+            cause,
+            program: 0,
+            block: 0,
+        }
     }
 }

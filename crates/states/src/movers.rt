@@ -30,7 +30,7 @@ pub fn tick_in(machine: &mut Option<Mover>) -> Passed
     ensures after { going_in machine.new ≡ ticked_in (raw_in machine.old) (going_in machine.old) }
     ensures value { result ≡ passing (going_in machine.old) (ticked_in (raw_in machine.old) (going_in machine.old)) }
 {
-    step_in(machine, |mover| mover.tick())
+    step_in(machine, Mover::tick)
 }
 
 /// A braking tick of the move in progress.
@@ -40,7 +40,7 @@ pub fn brake_in(machine: &mut Option<Mover>) -> Passed
     ensures after { going_in machine.new ≡ braked_in (raw_in machine.old) (going_in machine.old) }
     ensures value { result ≡ passing (going_in machine.old) (braked_in (raw_in machine.old) (going_in machine.old)) }
 {
-    step_in(machine, |mover| mover.brake())
+    step_in(machine, Mover::brake)
 }
 
 /// A new move.
