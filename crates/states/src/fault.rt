@@ -3,6 +3,7 @@ ghost use Rattle.states.specs.declared.fault.Cause.TheVariants.{OfDrive, OfData,
 ghost use Rattle.states.specs.Faults.{cause_number, cause_layer};
 ghost use Rattle.states.specs.Effects.{fault_at};
 
+use crate::mode::UnknownMode;
 use drives::fault::DriveFault;
 use motion::DataFault;
 
@@ -120,10 +121,10 @@ impl From<DataFault> for Cause {
     }
 }
 
-impl From<crate::mode::UnknownMode> for Cause {
+impl From<UnknownMode> for Cause {
     ghost from_gives = { λ _ cause. cause ≡ UnknownMode };
 
-    fn from(_unknown: crate::mode::UnknownMode) -> Cause {
+    fn from(_unknown: UnknownMode) -> Cause {
         Cause::UnknownMode
     }
 }

@@ -8,23 +8,23 @@ ghost use Rattle.states.specs.Shift.{offset_by, program_offset, own_shift, shift
 use crate::record::Record;
 use crate::state::{Run, State};
 use crate::working::Working;
-use motion::{MachineData, Mover};
+use motion::MachineData;
 use reader::OffsetChoice;
 
-/// The offset that a program has chosen.
-pub fn chosen_offset(machine: &MachineData, run: &Run) -> i64
-    ensures value { result ≡ offset_by (data_of machine.now) (course_in run.now).offset }
-    ensures small { unsigned_abs result ≤ 2147483648 }
-{
-    let [first, second, third, fourth] = machine.values().offsets;
-    let offset = match run.offset {
-        OffsetChoice::Without => 0,
-        OffsetChoice::First => first,
-        OffsetChoice::Second => second,
-        OffsetChoice::Third => third,
-        OffsetChoice::Fourth => fourth,
-    };
-    offset as i64
+impl Run {
+    /// The offset that the program has chosen.
+    pub fn chosen_offset(&self, machine: &MachineData) -> i32
+        ensures { result ≡ offset_by (data_of machine.now) (course_in self.now).offset }
+    {
+        let [first, second, third, fourth] = machine.values().offsets;
+        match self.offset {
+            OffsetChoice::Without => 0,
+            OffsetChoice::First => first,
+            OffsetChoice::Second => second,
+            OffsetChoice::Third => third,
+            OffsetChoice::Fourth => fourth,
+        }
+    }
 }
 
 impl State {
@@ -51,28 +51,22 @@ impl Working {
     }
 }
 
-// The offset of a program, by machine data that may be missing.
-fn program_offset(machine: &Option<Mover>, run: Option<Run>) -> i64
-    ensures value { result ≡ program_offset (raw_in machine.now) (course_if run) }
-    ensures small { unsigned_abs result ≤ 2147483648 }
-{
-    let Some(mover) = machine else {
-        return 0;
-    };
-    match run {
-        None => 0,
-        Some(run) => chosen_offset(mover.machine(), &run),
-    }
-}
-
 impl Record {
+    // The offset of the program that runs or is held.
+    fn program_offset(&self) -> i32
+        ensures { result ≡ program_offset (raw_in self.now.machine) (course_of (status_of self.now).work.phase) }
+    {
+        match (&self.machine, self.work.state.run()) {
+            (Some(mover), Some(run)) => run.chosen_offset(mover.machine()),
+            _ => 0,
+        }
+    }
+
     /// The shift, with the offset of the program that runs or is held.
     pub fn shift(&self) -> i64
         ensures value { result ≡ shift_of (raw_in self.now.machine) (status_of self.now).work }
         ensures small { unsigned_abs result ≤ 6442450944 }
     {
-        let own = self.work.own_shift();
-        let program = program_offset(&self.machine, self.work.state.run());
-        own + program
+        self.work.own_shift() + self.program_offset() as i64
     }
 }
