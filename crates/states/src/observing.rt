@@ -1,6 +1,5 @@
-ghost use Rattle.std.specs.Prelude.{◌≡◌, ◌+◌, ◌≤◌, not, ◌-ℤ◌, is_some};
-ghost use Rattle.states.specs.View.{raw_in, going_in, phase_of, work_of, status_of};
-ghost use Rattle.states.specs.State.{stands};
+ghost use Rattle.std.specs.Prelude.{◌≡◌, ◌+◌, ◌≤◌, ◌-ℤ◌};
+ghost use Rattle.states.specs.View.{raw_in, status_of};
 ghost use Rattle.states.specs.Shift.{shift_of};
 ghost use Rattle.states.specs.Observation.{bit, measured, in_degrees, in_millimetres, rest_in, feedback_of, shown_by, observed};
 
