@@ -11,8 +11,8 @@ use crate::record::Record;
 use crate::working::Working;
 use motion::MachineData;
 
-// The greatest coordinate of a jog without a reference.
-const FARTHEST: i32 = 40_000_000;
+/// The greatest coordinate, distance and shift, in units, to either side of zero.
+pub const REACH: i32 = 40_000_000;
 
 // The ends have the names that machine data give them; a range of the library would not.
 /// The least and the greatest target of a move.
@@ -103,8 +103,8 @@ impl AxisView<'_> {
             }
         } else {
             Span {
-                low: -FARTHEST,
-                high: FARTHEST,
+                low: -REACH,
+                high: REACH,
             }
         }
     }

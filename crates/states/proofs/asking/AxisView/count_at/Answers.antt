@@ -6,6 +6,4 @@ use Rattle.states.proofs.asking.AxisView.count_at.Goals as goal
 pub returns : goal.returns
 returns c =
     let v = rw (to_z-of_z {w = w32} c.ranges.target) at c.pulses-pulses.ensures.value in
-    let s = c.pulses-pulses.ensures.small in
-    let n = c.args.self.now.work.now.near in
     omega (arith, ints)
