@@ -11,9 +11,10 @@ use crate::record::Record;
 use crate::working::Working;
 use motion::MachineData;
 
-// The greatest coordinate of a jog without a reference.
-const FARTHEST: i32 = 40_000_000;
+/// The greatest coordinate, distance and shift, in units, to either side of zero.
+pub const REACH: i32 = 40_000_000;
 
+// The ends have the names that machine data give them; a range of the library would not.
 /// The least and the greatest target of a move.
 #[derive(Clone, Copy)]
 pub struct Span {
@@ -26,6 +27,7 @@ impl Span {
     fn target_of(self, wish: Wish) -> Option<i32>
         ensures { result ≡ cond (int_le self.low wish.target && int_le wish.target self.high) (Some wish.target) None }
     {
+        // As `contains` of a range it gets no proof that the cast loses nothing.
         if self.low as i64 <= wish.target && wish.target <= self.high as i64 {
             Some(wish.target as i32)
         } else {
@@ -93,16 +95,17 @@ impl AxisView<'_> {
     pub fn limits(&self) -> Span
         ensures { result ≡ record { low = lowest_of (data_of self.now.machine.now) self.now.work.now.referenced; high = highest_of (data_of self.now.machine.now) self.now.work.now.referenced } }
     {
-        if !self.work.referenced {
-            return Span {
-                low: -FARTHEST,
-                high: FARTHEST,
-            };
-        }
-        let values = self.machine.values();
-        Span {
-            low: values.low,
-            high: values.high,
+        if self.work.referenced {
+            let values = self.machine.values();
+            Span {
+                low: values.low,
+                high: values.high,
+            }
+        } else {
+            Span {
+                low: -REACH,
+                high: REACH,
+            }
         }
     }
 
@@ -135,7 +138,6 @@ impl AxisView<'_> {
     fn count_fits(&self, target: i32) -> bool
         ensures { result ≡ (int_le (reading_of self.now.reading).least (self.now.work.now.zero +ℤ pulses_by (data_of self.now.machine.now) target) && int_le (self.now.work.now.zero +ℤ pulses_by (data_of self.now.machine.now) target) (reading_of self.now.reading).greatest) }
     {
-        let count = self.count_at(target);
-        self.reading.least <= count && count <= self.reading.greatest
+        self.reading.spans(self.count_at(target))
     }
 }

@@ -1,5 +1,5 @@
 ghost use Rattle.std.specs.Prelude.{◌≡◌};
-ghost use Rattle.states.specs.State.{with_work, with_fault, with_phase, standing};
+ghost use Rattle.states.specs.State.{with_work};
 ghost use Rattle.states.specs.View.{course_if, raw_in, status_of};
 ghost use Rattle.states.specs.Effects.{set_off, fault_in};
 

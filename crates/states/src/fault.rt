@@ -59,6 +59,7 @@ pub enum Layer {
     Axis,
 }
 
+// Numbers and no options: a refused start may name program 0, which a host reads as none.
 /// A fault of an axis: its cause, and the program and block where it arose, 0 for none.
 #[derive(Clone, Copy, PartialEq, Eq, Debug)]
 pub struct AxisFault {

@@ -21,6 +21,7 @@ pub mod state;
 pub mod working;
 
 pub use aim::{Aim, Wish};
+pub use asking::{AxisView, REACH, Span};
 pub use fault::{AxisFault, Cause, Layer};
 pub use mode::{Jog, Mode, Pace, UnknownMode};
 pub use observation::Observation;

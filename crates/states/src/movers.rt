@@ -8,8 +8,7 @@ ghost use Rattle.states.specs.Moves.{ticked_in, braked_in, begun_in};
 use crate::aim::Aim;
 use motion::{Mover, Passed};
 
-// Without machine data there is no move: each function then changes nothing.
-
+// A step of the move in progress. Without machine data there is no move, and nothing changes.
 fn step_in<F: FnOnce(&mut Mover) -> Passed>(machine: &mut Option<Mover>, step: F) -> Passed
     requires { F.IsAlwaysCallable step }
     ensures { Stepped (FnOnceReturnsAtMut F.FnOnce step) machine.old result machine.new }

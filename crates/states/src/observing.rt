@@ -1,16 +1,14 @@
-ghost use Rattle.std.specs.Prelude.{◌≡◌, ◌+◌, ◌≤◌, not, ◌-ℤ◌, is_some};
-ghost use Rattle.states.specs.View.{raw_in, going_in, phase_of, work_of, status_of};
-ghost use Rattle.states.specs.State.{stands};
+ghost use Rattle.std.specs.Prelude.{◌≡◌, ◌+◌, ◌≤◌, ◌-ℤ◌};
+ghost use Rattle.states.specs.View.{raw_in, status_of};
 ghost use Rattle.states.specs.Shift.{shift_of};
 ghost use Rattle.states.specs.Observation.{bit, measured, in_degrees, in_millimetres, rest_in, feedback_of, shown_by, observed};
 
 use crate::observation::Observation;
 use crate::record::Record;
 use crate::state::State;
-use motion::Mover;
 use units::Measure;
 
-// The bits of the feedback byte; bit 4 is always 0.
+// The bits of the feedback byte; bit 4 is always 0. The rules add them up, so that no type of flags is needed.
 const DEGREES: u8 = 0x01;
 
 const METRIC: u8 = 0x02;
@@ -32,32 +30,16 @@ fn bit(set: bool, value: u8) -> u8
     if set { value } else { 0 }
 }
 
-// Bits 0 and 1.
-fn measure_bits(machine: &Option<Mover>) -> u8
-    ensures value { result ≡ bit (measured in_degrees (raw_in machine.now)) 1 + bit (measured in_millimetres (raw_in machine.now)) 2 }
-    ensures most { result ≤ 2 }
-{
-    let Some(mover) = machine else {
-        return 0;
-    };
-    match mover.machine().values().measure {
-        Measure::Degree => DEGREES,
-        Measure::Millimetre => METRIC,
-        Measure::Inch => 0,
-    }
-}
-
 impl Record {
     /// What observing answers; nothing changes.
     pub fn observe(&self) -> Observation
         ensures { shown_by result ≡ observed (status_of self.now) }
     {
-        let shift = self.shift();
         Observation {
             mode: self.work.mode,
             auxiliary: self.work.auxiliary,
             coordinate: self.work.coordinate,
-            shift,
+            shift: self.shift(),
             actual: self.actual(),
             rest: self.rest(),
             fault: self.work.fault,
@@ -65,7 +47,7 @@ impl Record {
         }
     }
 
-    // The coordinate less the shift.
+    // The coordinate less the shift. Written out in `observe`, it gets no proof by itself.
     fn actual(&self) -> i64
         ensures { result ≡ (self.now.work.coordinate -ℤ shift_of (raw_in self.now.machine) (status_of self.now).work) }
     {
@@ -84,10 +66,25 @@ impl Record {
         }
     }
 
+    // Bits 0 and 1.
+    fn measure_bits(&self) -> u8
+        ensures value { result ≡ bit (measured in_degrees (raw_in self.now.machine)) 1 + bit (measured in_millimetres (raw_in self.now.machine)) 2 }
+        ensures most { result ≤ 2 }
+    {
+        let Some(mover) = &self.machine else {
+            return 0;
+        };
+        match mover.machine().values().measure {
+            Measure::Degree => DEGREES,
+            Measure::Millimetre => METRIC,
+            Measure::Inch => 0,
+        }
+    }
+
     fn feedback(&self) -> u8
         ensures { result ≡ feedback_of (raw_in self.now.machine) (status_of self.now).work }
     {
-        measure_bits(&self.machine)
+        self.measure_bits()
             + bit(self.work.in_position, IN_POSITION)
             + bit(self.work.referenced, REFERENCED)
             + bit(!self.work.referenced, REFERENCE_MISSING)

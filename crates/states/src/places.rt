@@ -8,6 +8,7 @@ use crate::state::Journey;
 use crate::working::Working;
 
 impl Working {
+    // Each difference and sum has a bound of its own, which a type for all of them would not keep.
     /// The pulses from zero to where the drive is.
     pub fn from_zero(&self, reading: Reading) -> i64
         ensures value { result ≡ ((reading_of reading).count -ℤ self.now.zero) }
@@ -19,13 +20,16 @@ impl Working {
 
 impl Record {
     /// Where the axis is on its move: the nearest unit, held between start and target.
+    #[tactic(auto, unfolding(crate::specs::Moves::placed_in))]
     pub fn place(&self, journey: Journey, reading: Reading) -> i32
         ensures { result ≡ placed_in (raw_in self.now.machine) journey.start journey.target ((reading_of reading).count -ℤ self.now.work.zero) }
     {
         let Some(mover) = &self.machine else {
             return journey.start;
         };
-        let n = self.work.from_zero(reading);
-        mover.machine().coordinate(n, journey.start, journey.target)
+        let pulses = self.work.from_zero(reading);
+        mover
+            .machine()
+            .coordinate(pulses, journey.start, journey.target)
     }
 }

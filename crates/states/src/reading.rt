@@ -16,7 +16,7 @@ pub struct Reading {
 }
 
 impl Reading {
-    ghost use Rattle.std.specs.Prelude.{◌≡◌};
+    ghost use Rattle.std.specs.Prelude.{◌≡◌, ◌&&◌, int_le};
     ghost use Rattle.states.specs.View.{reading_of};
     ghost use Rattle.states.specs.Moves.{ready_verdict};
 
@@ -30,6 +30,13 @@ impl Reading {
             greatest: drive.greatest(),
             ready: drive.ready(),
         }
+    }
+
+    // A count that lies between the drive's ends.
+    pub(crate) fn spans(&self, count: i64) -> bool
+        ensures { result ≡ (int_le (reading_of self.now).least count && int_le count (reading_of self.now).greatest) }
+    {
+        (self.least..=self.greatest).contains(&count)
     }
 
     /// 21, asked of a move before it begins.

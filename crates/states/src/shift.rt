@@ -1,7 +1,7 @@
 ghost use Rattle.std.specs.Prelude.{◌≡◌, ◌≤◌, ◌+ℤ◌, unsigned_abs};
 ghost use Rattle.motion.specs.Entry.{data_of};
 ghost use Rattle.motion.specs.Travel.{Going};
-ghost use Rattle.states.specs.View.{course_in, course_if, raw_in, going_in, work_of, status_of, phase_of};
+ghost use Rattle.states.specs.View.{course_in, course_if, raw_in, status_of, phase_of};
 ghost use Rattle.states.specs.State.{course_of};
 ghost use Rattle.states.specs.Shift.{offset_by, program_offset, own_shift, shift_of};
 
@@ -42,6 +42,7 @@ impl State {
 }
 
 impl Working {
+    // Each sum has a bound of its own, which a type for all of them would not keep.
     /// The shift outside a program: zero offset and tool value.
     pub fn own_shift(&self) -> i64
         ensures value { result ≡ (self.now.offset +ℤ self.now.tool) }

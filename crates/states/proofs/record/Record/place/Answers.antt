@@ -2,10 +2,6 @@ use Rattle.std.proofs.Common.{rules}
 use Rattle.states.specs.Moves.{placed_in}
 use Rattle.states.proofs.record.Record.place.Goals as goal
 
-pub returns-in_default : goal.returns-in_default
-unfolding placed_in
-returns-in_default c = search rules
-
 pub returns : goal.returns
 unfolding placed_in
 returns c = search rules
