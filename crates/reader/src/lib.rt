@@ -1,7 +1,7 @@
 #![tactic(auto)]
 
-ghost use Rattle.std.specs.Prelude.{◌≡◌, ◌≤◌, length};
-ghost use Rattle.reader.specs.Lines.{cut};
+ghost use Rattle.std.specs.Prelude.{◌≡◌};
+ghost use Rattle.reader.specs.Lines.{left};
 ghost use Rattle.reader.specs.Questions.{judged, verdict};
 ghost use Rattle.reader.specs.Answers.{OneAnswer, WithinLimits, ValuesSaid, CodesRead};
 
@@ -17,7 +17,7 @@ pub use block::{Block, Motion, OffsetChoice, Way, ends_program};
 pub use fault::LineFault;
 use order::in_order;
 use part::parts_of;
-use rest::MOST_BYTES;
+use rest::{MOST_BYTES, Rest};
 use units::Measure;
 use values::block_of;
 
@@ -49,13 +49,12 @@ fn judge(line: &[u8], measure: Measure, blocks: usize) -> Result<Option<Block>, 
     if blocks == 0 && line.starts_with(b"%") {
         return Ok(None);
     }
-    read_words(line, measure)
+    read_words(Rest::of(line), measure)
 }
 
 // Form, order and range are each asked of the whole line before the next.
-fn read_words(line: &[u8], measure: Measure) -> Result<Option<Block>, LineFault>
-    requires { length line.now ≤ 80 }
-    ensures { result ≡ judged measure (cut measure 0 0 line.now) }
+fn read_words(line: Rest, measure: Measure) -> Result<Option<Block>, LineFault>
+    ensures { result ≡ judged measure (left measure line.entry) }
 {
     let parts = parts_of(line, measure)?;
     in_order(&parts)?;

@@ -4,7 +4,7 @@ ghost use Rattle.std.specs.Result.{result_ok};
 ghost use Rattle.reader.specs.Words.{numeric, letter_of, formed};
 ghost use Rattle.reader.specs.Reads.{Stops};
 ghost use Rattle.units.specs.declared.Measure.{Measure};
-ghost use Rattle.reader.specs.Lines.{blank, closed_at, left, Begins, BeginsAny, Next, Filled, cut};
+ghost use Rattle.reader.specs.Lines.{blank, closed_at, left, Begins, BeginsAny, Next, Filled};
 
 use crate::block::Unknown;
 use crate::fault::LineFault;
@@ -159,13 +159,12 @@ impl<'a> Rest<'a> {
 
 // The parts of a line.
 pub(crate) fn parts_of<'a>(
-    line: &'a [u8],
+    line: Rest<'a>,
     measure: Measure,
 ) -> Result<ArrayVec<Part<'a>, MOST_BYTES>, LineFault>
-    requires { length line.now ≤ 80 }
-    ensures { Filled (cut measure 0 0 line.now) result }
+    ensures { Filled (left measure line.entry) result }
 {
-    let mut rest = Rest::of(line);
+    let mut rest = line;
     let mut parts = ArrayVec::new();
     while let Some(begun) = rest.next_part(measure) {
         let (part, after) = begun?;

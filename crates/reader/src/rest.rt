@@ -12,6 +12,7 @@ pub(crate) struct Rest<'a> {
 }
 
 impl<'a> Rest<'a> {
+    // A whole line.
     pub(crate) fn of(line: &'a [u8]) -> Rest<'a>
         requires { length line.now ≤ 80 }
         ensures bytes { result.bytes.now ≡ line.now }

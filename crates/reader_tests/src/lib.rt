@@ -8,17 +8,18 @@ mod tests {
     use std::test::Fail;
     use units::Measure;
 
-    // A line in millimetres, and its block: N, the three groups of G, X in units, F and M.
-    type Says = (
-        &'static [u8],
-        Option<u16>,
-        Option<Motion>,
-        Option<OffsetChoice>,
-        Option<Way>,
-        Option<i32>,
-        Option<u16>,
-        Option<u8>,
-    );
+    // A line in millimetres, and its block.
+    type Says = (&'static [u8], Block);
+
+    const NOTHING: Block = Block {
+        number: None,
+        motion: None,
+        offset: None,
+        way: None,
+        target: None,
+        feed: None,
+        auxiliary: None,
+    };
 
     const G00: Option<Motion> = Some(Motion::Rapid);
 
@@ -45,116 +46,270 @@ mod tests {
     type Refused = (&'static [u8], u8, usize);
 
     const WORDS: [Says; 27] = [
-        (b"N1", Some(1), None, None, None, None, None, None),
-        (b"G00", None, G00, None, None, None, None, None),
-        (b"G01", None, G01, None, None, None, None, None),
-        (b"G53", None, None, G53, None, None, None, None),
-        (b"G54", None, None, G54, None, None, None, None),
-        (b"G55", None, None, G55, None, None, None, None),
-        (b"G56", None, None, G56, None, None, None, None),
-        (b"G57", None, None, G57, None, None, None, None),
-        (b"G90", None, None, None, G90, None, None, None),
-        (b"G91", None, None, None, G91, None, None, None),
-        (b"X0", None, None, None, None, Some(0), None, None),
-        (b"F1", None, None, None, None, None, Some(1), None),
-        (b"M00", None, None, None, None, None, None, Some(0)),
-        (b"M30", None, None, None, None, None, None, Some(30)),
-        (b"M99", None, None, None, None, None, None, Some(99)),
+        (
+            b"N1",
+            Block {
+                number: Some(1),
+                ..NOTHING
+            },
+        ),
+        (
+            b"G00",
+            Block {
+                motion: G00,
+                ..NOTHING
+            },
+        ),
+        (
+            b"G01",
+            Block {
+                motion: G01,
+                ..NOTHING
+            },
+        ),
+        (
+            b"G53",
+            Block {
+                offset: G53,
+                ..NOTHING
+            },
+        ),
+        (
+            b"G54",
+            Block {
+                offset: G54,
+                ..NOTHING
+            },
+        ),
+        (
+            b"G55",
+            Block {
+                offset: G55,
+                ..NOTHING
+            },
+        ),
+        (
+            b"G56",
+            Block {
+                offset: G56,
+                ..NOTHING
+            },
+        ),
+        (
+            b"G57",
+            Block {
+                offset: G57,
+                ..NOTHING
+            },
+        ),
+        (
+            b"G90",
+            Block {
+                way: G90,
+                ..NOTHING
+            },
+        ),
+        (
+            b"G91",
+            Block {
+                way: G91,
+                ..NOTHING
+            },
+        ),
+        (
+            b"X0",
+            Block {
+                target: Some(0),
+                ..NOTHING
+            },
+        ),
+        (
+            b"F1",
+            Block {
+                feed: Some(1),
+                ..NOTHING
+            },
+        ),
+        (
+            b"M00",
+            Block {
+                auxiliary: Some(0),
+                ..NOTHING
+            },
+        ),
+        (
+            b"M30",
+            Block {
+                auxiliary: Some(30),
+                ..NOTHING
+            },
+        ),
+        (
+            b"M99",
+            Block {
+                auxiliary: Some(99),
+                ..NOTHING
+            },
+        ),
         (
             b"N10 G01 G54 G90 X10 F100 M30",
-            Some(10),
-            G01,
-            G54,
-            G90,
-            Some(10000),
-            Some(100),
-            Some(30),
+            Block {
+                number: Some(10),
+                motion: G01,
+                offset: G54,
+                way: G90,
+                target: Some(10000),
+                feed: Some(100),
+                auxiliary: Some(30),
+            },
         ),
         (
             b"N10G01G54G90X10F100M30",
-            Some(10),
-            G01,
-            G54,
-            G90,
-            Some(10000),
-            Some(100),
-            Some(30),
+            Block {
+                number: Some(10),
+                motion: G01,
+                offset: G54,
+                way: G90,
+                target: Some(10000),
+                feed: Some(100),
+                auxiliary: Some(30),
+            },
         ),
-        (b"G91 G57 G00", None, G00, G57, G91, None, None, None),
-        (b"N7 M02", Some(7), None, None, None, None, None, Some(2)),
+        (
+            b"G91 G57 G00",
+            Block {
+                motion: G00,
+                offset: G57,
+                way: G91,
+                ..NOTHING
+            },
+        ),
+        (
+            b"N7 M02",
+            Block {
+                number: Some(7),
+                auxiliary: Some(2),
+                ..NOTHING
+            },
+        ),
         (
             b"  N5   X1  ",
-            Some(5),
-            None,
-            None,
-            None,
-            Some(1000),
-            None,
-            None,
+            Block {
+                number: Some(5),
+                target: Some(1000),
+                ..NOTHING
+            },
         ),
-        (b"N9999", Some(9999), None, None, None, None, None, None),
-        (b"N0001", Some(1), None, None, None, None, None, None),
+        (
+            b"N9999",
+            Block {
+                number: Some(9999),
+                ..NOTHING
+            },
+        ),
+        (
+            b"N0001",
+            Block {
+                number: Some(1),
+                ..NOTHING
+            },
+        ),
         (
             b"N0000000000000000000000000000000000000007",
-            Some(7),
-            None,
-            None,
-            None,
-            None,
-            None,
-            None,
+            Block {
+                number: Some(7),
+                ..NOTHING
+            },
         ),
-        (b"F65000", None, None, None, None, None, Some(65000), None),
-        (b"F0000000001", None, None, None, None, None, Some(1), None),
+        (
+            b"F65000",
+            Block {
+                feed: Some(65000),
+                ..NOTHING
+            },
+        ),
+        (
+            b"F0000000001",
+            Block {
+                feed: Some(1),
+                ..NOTHING
+            },
+        ),
         (
             b"F0000000000000000000000000000000000065000",
-            None,
-            None,
-            None,
-            None,
-            None,
-            Some(65000),
-            None,
+            Block {
+                feed: Some(65000),
+                ..NOTHING
+            },
         ),
         (
             b"                                                                             N42",
-            Some(42),
-            None,
-            None,
-            None,
-            None,
-            None,
-            None,
+            Block {
+                number: Some(42),
+                ..NOTHING
+            },
         ),
     ];
 
     const REMARKS: [Says; 8] = [
-        (b"(remark)N1", Some(1), None, None, None, None, None, None),
-        (b"N1(remark)", Some(1), None, None, None, None, None, None),
+        (
+            b"(remark)N1",
+            Block {
+                number: Some(1),
+                ..NOTHING
+            },
+        ),
+        (
+            b"N1(remark)",
+            Block {
+                number: Some(1),
+                ..NOTHING
+            },
+        ),
         (
             b"N1 (a) X2 (b)",
-            Some(1),
-            None,
-            None,
-            None,
-            Some(2000),
-            None,
-            None,
+            Block {
+                number: Some(1),
+                target: Some(2000),
+                ..NOTHING
+            },
         ),
-        (b"G00()G53", None, G00, G53, None, None, None, None),
-        (b"(a(b)X1", None, None, None, None, Some(1000), None, None),
-        (b"(% n X.)N3", Some(3), None, None, None, None, None, None),
+        (
+            b"G00()G53",
+            Block {
+                motion: G00,
+                offset: G53,
+                ..NOTHING
+            },
+        ),
+        (
+            b"(a(b)X1",
+            Block {
+                target: Some(1000),
+                ..NOTHING
+            },
+        ),
+        (
+            b"(% n X.)N3",
+            Block {
+                number: Some(3),
+                ..NOTHING
+            },
+        ),
         (
             b"(\xc3\xa4\xff\x00)X1",
-            None,
-            None,
-            None,
-            None,
-            Some(1000),
-            None,
-            None,
+            Block {
+                target: Some(1000),
+                ..NOTHING
+            },
         ),
-        (b"( )( )M02( )", None, None, None, None, None, None, Some(2)),
+        (
+            b"( )( )M02( )",
+            Block {
+                auxiliary: Some(2),
+                ..NOTHING
+            },
+        ),
     ];
 
     const NUMBERS: [InUnits; 28] = [
@@ -390,19 +545,10 @@ mod tests {
     }
 
     fn all_say(rt: &impl Abort, cases: &[Says], blocks: usize) {
-        for (line, number, motion, offset, way, target, feed, auxiliary) in cases {
-            let block = Block {
-                number: *number,
-                motion: *motion,
-                offset: *offset,
-                way: *way,
-                target: *target,
-                feed: *feed,
-                auxiliary: *auxiliary,
-            };
+        for (line, block) in cases {
             assert_eq!(rt;
                 read_line(*line, Measure::Millimetre, blocks),
-                Ok(Some(block))
+                Ok(Some(*block))
             );
         }
     }
