@@ -2,11 +2,10 @@
 use Rattle.std.proofs.Common.{◌≡◌, ℕ, ◌+◌, ◌*◌, ◌^◌, ◌<◌, ◌≤◌, ℤ, pos, negsuc, ◌+ℤ◌, ◌*ℤ◌, nat_abs, refl, div-le_self, arith, w32, w64, SFits}
 use Rattle.std.specs.Int.{int_div_euclid}
 use Rattle.motion.specs.Places.{floor_div, rounded_of}
-use borrow.Author.Differences.{up, down}
-use Rattle.std.proofs.lemmas.Int.{ints}
+use Rattle.std.proofs.lemmas.Int.{ints, unsigned_abs-mul}
 use Rattle.std.proofs.lemmas.Nat.{mul-le}
 
-pub floor_is : (z : ℤ) (d : ℕ) → int_div_euclid z (pos d) ≡ floor_div z d
+floor_is : (z : ℤ) (d : ℕ) → int_div_euclid z (pos d) ≡ floor_div z d
 floor_is (pos a) d = refl
 floor_is (negsuc a) d = refl
 
@@ -17,18 +16,11 @@ quotient z k j =
     let e : pos 2 *ℤ pos j ≡ pos (2 * j) = omega (arith, ints) in
     rw (d, e) (floor_is (z *ℤ pos (2 * k) +ℤ pos j) (2 * j))
 
-product_parts : (z : ℤ) (k : ℕ) → (up (z *ℤ pos k) ≤ nat_abs z * k) × (down (z *ℤ pos k) ≤ nat_abs z * k)
-product_parts (pos n) k = omega arith
-product_parts (negsuc n) k = omega (arith, ints)
-
-pub product_size : (z : ℤ) (k : ℕ) → nat_abs (z *ℤ pos k) ≤ nat_abs z * k
-product_size z k = omega (arith, ints, product_parts z k)
-
-pub floor_bound : (z : ℤ) (d : ℕ) → nat_abs (floor_div z d) ≤ nat_abs z
+floor_bound : (z : ℤ) (d : ℕ) → nat_abs (floor_div z d) ≤ nat_abs z
 floor_bound (pos a) d = div-le_self a d
 floor_bound (negsuc a) d = omega (arith, ints, div-le_self a d)
 
-pub sum_bound : (z : ℤ) (j : ℕ) → nat_abs (z +ℤ pos j) ≤ nat_abs z + j
+sum_bound : (z : ℤ) (j : ℕ) → nat_abs (z +ℤ pos j) ≤ nat_abs z + j
 sum_bound z j = omega (arith, ints)
 
 -- the pulses of a 32-bit coordinate are far inside 64 bits
@@ -39,7 +31,7 @@ pulses_small c k j f h i =
       ints,
       floor_bound (c *ℤ pos (2 * k) +ℤ pos j) (2 * j),
       sum_bound (c *ℤ pos (2 * k)) j,
-      product_size c (2 * k),
+      unsigned_abs-mul c (pos (2 * k)),
       mul-le (nat_abs c) (2 * k) (2 ^ 31) 20000 (omega (arith, ints)) (omega arith),
     )
 
@@ -47,4 +39,4 @@ pulses_small c k j f h i =
 pub product_bound : (z : ℤ) (k : ℕ) → SFits w64 z → k < 2 ^ 32 → nat_abs (z *ℤ (pos 2 *ℤ pos k)) ≤ 2 ^ 96
 product_bound z k f h =
     let d : pos 2 *ℤ pos k ≡ pos (2 * k) = omega (arith, ints) in
-    rw d (omega (arith, ints, product_size z (2 * k), mul-le (nat_abs z) (2 * k) (2 ^ 63) (2 ^ 33) (omega (arith, ints)) (omega arith)))
+    rw d (omega (arith, ints, unsigned_abs-mul z (pos (2 * k)), mul-le (nat_abs z) (2 * k) (2 ^ 63) (2 ^ 33) (omega (arith, ints)) (omega arith)))
