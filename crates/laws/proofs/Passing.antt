@@ -3,7 +3,7 @@ use Rattle.std.proofs.Common.{◌≡◌, ℕ, ◌-◌, ◌*◌, ◌/◌, ◌≤�
 use Rattle.std.proofs.lemmas.Int.{ints, clamps}
 use Rattle.drives.specs.Meaning.{Meaning, Sound, at}
 use Rattle.drives.specs.Sending.{told}
-use Rattle.drives.proofs.Sends.{gone, Within, all-sent, all_told}
+use Rattle.laws.proofs.Sent.{gone, Within, all-sent, all_told}
 use Rattle.motion.specs.declared.raw.RawData.{RawData}
 use Rattle.motion.specs.Data.{InRange}
 use Rattle.motion.specs.Ramp.{Ramp, ramp_of}

@@ -1,11 +1,11 @@
 -- The coordinate machine of one axis: what each act answers and leaves, and whole runs of acts.
-use Rattle.std.specs.Prelude.{ℕ, ◌+◌, Bool, false, List, [], ◌∷◌, pos, None, Ok, Result}
+use Rattle.std.specs.Prelude.{ℕ, ◌+◌, Bool, false, List, [], ◌∷◌, Ok, Result}
 use Rattle.drives.specs.Meaning.{Meaning, levelled}
 use Rattle.motion.specs.declared.raw.RawData.{RawData}
 use Rattle.store.specs.Programs.{Programs}
 use Rattle.states.specs.declared.order.Order.{Order}
 use Rattle.states.specs.declared.fault.AxisFault.{AxisFault}
-use Rattle.states.specs.State.{standing, Work, Status, AxisState}
+use Rattle.states.specs.State.{Status, AxisState}
 use Rattle.states.specs.Entry.{new_status, enter_step, enter_reply, delete_step, delete_reply}
 use Rattle.orders.specs.Orders.{order_step, order_reply}
 use Rattle.ticks.specs.Ticks.{with_status, tick_step, tick_reply}
