@@ -3,7 +3,7 @@ use Rattle.std.proofs.Common.{◌≡◌, ℕ, Bool, true, false, cond, ◌&&◌,
 use Rattle.reader.specs.declared.block.Block.{Block}
 use Rattle.drives.specs.Meaning.{Meaning}
 use Rattle.motion.specs.declared.raw.RawData.{RawData}
-use Rattle.store.specs.Closing.{ends_by}
+use Rattle.reader.specs.Words.{ends_by}
 use Rattle.states.specs.declared.aim.Aim.{Aim}
 use Rattle.states.specs.declared.fault.Cause.{Cause}
 use Rattle.states.specs.State.{Course, standing, held, between, Work, course_of}

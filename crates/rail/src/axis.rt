@@ -52,7 +52,7 @@ impl Axis {
                 self.drive.level(ready);
                 Ok(())
             }
-            Ask::Pulses { direction, pulses } => send(&mut self.drive, direction, pulses),
+            Ask::Pulses { direction, pulses } => send(&mut self.drive, direction, u64::from(pulses)),
         }
     }
 
@@ -74,14 +74,8 @@ impl Axis {
 }
 
 fn layers(outer: u16, inner: u16, count: i64) -> Result<Layers, DriveFault> {
-    layer(layer(ClockStage::new(count)?, inner)?, outer)
-}
-
-fn layer<D: Drive + Drop>(below: D, play: u16) -> Result<TakeUp<D>, DriveFault> {
-    match TakeUp::new(below, play) {
-        Ok(layer) => Ok(layer),
-        Err(back) => Err(back.1),
-    }
+    let screw = TakeUp::new(ClockStage::new(count)?, inner)?;
+    Ok(TakeUp::new(screw, outer)?)
 }
 
 /// Where an axis stands.

@@ -1,7 +1,7 @@
 ghost use Rattle.std.specs.Prelude.{◌≡◌};
 ghost use Rattle.reader.specs.Questions.{verdict};
 
-use reader::{Block, LineFault, Motion, OffsetChoice, Way, read_line};
+use reader::{Block, LineFault, read_line};
 use std::fmt;
 use units::Measure;
 
@@ -22,10 +22,10 @@ impl Reading {
             Ok(None) => "the line is passed over",
             Err(LineFault::TooLong) => "the line has more than 80 bytes",
             Err(LineFault::ProgramFull) => "the program has 64 blocks already",
-            Err(LineFault::Form(_)) => "what starts there is no well formed word or remark",
-            Err(LineFault::Order(_)) =>
+            Err(LineFault::Form { .. }) => "what starts there is no well formed word or remark",
+            Err(LineFault::Order { .. }) =>
                 "the word there is out of order, or the second of its letter or group",
-            Err(LineFault::Range(_)) => "the number there is out of range, or the G is not known",
+            Err(LineFault::Range { .. }) => "the number there is out of range, or the G is not known",
         }
     }
 }
@@ -73,9 +73,9 @@ fn write_or_dash<T: fmt::Display + Drop, W: fmt::Write>(
 
 fn write_choices<W: fmt::Write>(block: &Block, f: &mut fmt::Formatter<W>) -> fmt::Result {
     let codes = [
-        block.motion.map(Motion::code),
-        block.offset.map(OffsetChoice::code),
-        block.way.map(Way::code),
+        block.motion.map(u8::from),
+        block.offset.map(u8::from),
+        block.way.map(u8::from),
     ];
     if codes.iter().all(Option::is_none) {
         return f.write_str(" -");

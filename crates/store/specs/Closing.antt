@@ -1,15 +1,12 @@
 -- When the blocks of an entry may be closed.
-use Rattle.std.specs.Prelude.{ℕ, Bool, true, false, cond, not, ◌&&◌, ◌||◌, List, [], ◌∷◌, is_some, Some, None, Option, ◌==◌}
+use Rattle.std.specs.Prelude.{ℕ, Bool, true, false, cond, not, ◌&&◌, ◌||◌, List, [], ◌∷◌, is_some, None, Option}
 use Rattle.std.specs.Option.{unwrap_or, option_or}
 use Rattle.reader.specs.declared.block.Motion.{Motion}
 use Rattle.reader.specs.declared.block.Motion.TheVariants.{Rapid, Feed}
 use Rattle.reader.specs.declared.block.Block.{Block}
+use Rattle.reader.specs.Words.{ends_by}
 
 -- M02 and M30 end a program
-abbrev pub ends_by : Option ℕ → Bool
-ends_by None = false
-ends_by (Some m) = m == 2 || m == 30
-
 abbrev pub ends : Block → Bool
 ends b = ends_by b.auxiliary
 

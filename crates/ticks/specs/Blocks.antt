@@ -7,7 +7,7 @@ use Rattle.reader.specs.declared.block.Way.TheVariants.{Absolute, Relative}
 use Rattle.drives.specs.Meaning.{Meaning}
 use Rattle.motion.specs.declared.raw.RawData.{RawData}
 use Rattle.store.specs.Programs.{Programs, found, block_in}
-use Rattle.store.specs.Closing.{ends_by}
+use Rattle.reader.specs.Words.{ends_by}
 use Rattle.states.specs.declared.aim.Aim.{Aim}
 use Rattle.states.specs.declared.fault.Cause.{Cause}
 use Rattle.states.specs.declared.fault.Cause.TheVariants.{NoMachineData}

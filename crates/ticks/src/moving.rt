@@ -9,6 +9,7 @@ ghost use Rattle.ticks.specs.Blocks.{done_with};
 ghost use Rattle.ticks.specs.Moving.{is_ahead, after_move, stopped_short, ran, slowed, fail_step};
 
 use drives::direction::Direction;
+use reader::ends_program;
 use states::effects::fault_in;
 use states::{AxisFault, Cause, Hold, Journey, Mode, Pace, Reading, Record, Run, State, Switches};
 
@@ -37,8 +38,10 @@ pub fn is_ahead(journey: Journey, switches: Switches) -> bool
 pub(crate) fn after_block(mode: Mode, moved: bool, run: Run) -> State
     ensures { (g : Going) → phase_of g result ≡ done_with (mode_number mode) moved (course_in run) }
 {
+    if ends_program(run.auxiliary) {
+        return State::Standing;
+    }
     match run.auxiliary {
-        Some(2) | Some(30) => State::Standing,
         Some(0) => held(run, None),
         _ => after_step(mode, moved, run),
     }

@@ -1,10 +1,10 @@
 ghost use Rattle.std.specs.Prelude.{◌≡◌, None, unwrap_or};
 ghost use Rattle.std.specs.Option.{option_or};
-ghost use Rattle.store.specs.Closing.{ends, fits_at, closable};
+ghost use Rattle.store.specs.Closing.{fits_at, closable};
 ghost use Rattle.store.specs.Programs.{program_of};
 
 use crate::record::Record;
-use reader::{Block, Motion};
+use reader::{Block, Motion, ends_program};
 
 impl Record {
     pub(crate) fn closable(&self) -> bool
@@ -59,7 +59,7 @@ impl Modes {
     fn fit(self, block: &Block, last: bool) -> bool
         ensures { result ≡ fits_at last self.motion self.feed block.now }
     {
-        if ends(block) != last {
+        if ends_program(block.auxiliary) != last {
             return false;
         }
         match self.motion {
@@ -67,10 +67,4 @@ impl Modes {
             Motion::Feed => block.target.is_none() || self.feed.is_some(),
         }
     }
-}
-
-fn ends(block: &Block) -> bool
-    ensures { result ≡ ends block.now }
-{
-    matches!(block.auxiliary, Some(2 | 30))
 }
