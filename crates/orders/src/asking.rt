@@ -10,12 +10,8 @@ ghost use Rattle.orders.specs.Questions.{verdict, verdict_in, standing_verdict, 
 
 use crate::modes::{admits, needs_reference, values_fit};
 use crate::plan::{Accepted, Plan};
-use states::asking::AxisView;
-use states::{Cause, Command, Mode, Order, Reading, Record, State, Wish};
+use states::{AxisView, Cause, Command, Mode, Order, REACH, Reading, Record, State, Wish};
 use store::Store;
-
-// The greatest shift, in units.
-const REACH: i64 = 40_000_000;
 
 /// An order to an axis whose drive reads so, with the programs in store.
 #[derive(Clone, Copy)]
@@ -192,7 +188,8 @@ fn moved(view: &AxisView, order: Order) -> i64
 fn ask_shift(units: i64) -> Result<i32, Cause>
     ensures { result ≡ shift_verdict units }
 {
-    if !(-REACH..=REACH).contains(&units) {
+    let reach = i64::from(REACH);
+    if !(-reach..=reach).contains(&units) {
         return Err(Cause::ShiftOutside);
     }
     Ok(units as i32)

@@ -1,10 +1,7 @@
 ghost use Rattle.std.specs.Prelude.{◌≡◌, not, ◌&&◌, ◌||◌};
 ghost use Rattle.orders.specs.Modes.{admits, needs_reference, values_fit, speed_fits, in_reach, bare, uses_speed, uses_double, goes_one_way};
 
-use states::{Command, Mode, Order};
-
-// The greatest coordinate, distance and shift, in units.
-const REACH: i32 = 40_000_000;
+use states::{Command, Mode, Order, REACH};
 
 pub(crate) fn admits(mode: Mode, command: Command) -> bool
     ensures { result ≡ admits mode command }

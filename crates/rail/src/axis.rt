@@ -52,7 +52,11 @@ impl Axis {
                 self.drive.level(ready);
                 Ok(())
             }
-            Ask::Pulses { direction, pulses } => send(&mut self.drive, direction, u64::from(pulses)),
+            Ask::Pulses { direction, pulses } => send(
+                &mut self.drive,
+                direction,
+                u64::from(pulses),
+            ),
         }
     }
 

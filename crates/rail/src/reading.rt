@@ -25,7 +25,8 @@ impl Reading {
             Err(LineFault::Form { .. }) => "what starts there is no well formed word or remark",
             Err(LineFault::Order { .. }) =>
                 "the word there is out of order, or the second of its letter or group",
-            Err(LineFault::Range { .. }) => "the number there is out of range, or the G is not known",
+            Err(LineFault::Range { .. }) =>
+                "the number there is out of range, or the G is not known",
         }
     }
 }

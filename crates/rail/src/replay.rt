@@ -21,9 +21,13 @@ pub enum Stop {
 
 /// Makes the drives and the store, then each call in turn, and prints its answer.
 pub fn replay(rt: &HostRuntime, lines: &[&[u8]], explain: bool) -> Result<(), Stop> {
-    let plan = plan_drives(lines)?;
-    let mut bench = Bench::new(plan)?;
-    let mut store = new_store(rt)?;
+    let bench = Bench::new(plan_drives(lines)?)?;
+    let mut rail = Rail {
+        rt,
+        bench,
+        store: new_store(rt)?,
+        explain,
+    };
     let mut calling = false;
     for (i, line) in lines.iter().enumerate() {
         let Some(line) = read(*line, i)? else {
@@ -33,10 +37,10 @@ pub fn replay(rt: &HostRuntime, lines: &[&[u8]], explain: bool) -> Result<(), St
             return Err(mistake_at(i, Mistake::DriveAfterCall));
         }
         calling = line.is_call();
-        answer(rt, &mut bench, &mut store, line, explain)?;
+        rail.answer(line)?;
     }
     if explain {
-        account(rt, &bench)?;
+        rail.account()?;
     }
     Ok(())
 }
@@ -72,81 +76,77 @@ fn mistake_at(index: usize, mistake: Mistake) -> Stop {
     }
 }
 
-// What is said to a line that is a call.
-fn answer(
-    rt: &HostRuntime,
-    bench: &mut Bench,
-    store: &mut Store,
-    line: Line,
+// What a script acts on, and where its answers go.
+#[derive(Drop)]
+struct Rail<'a> {
+    rt: &'a HostRuntime,
+    bench: Bench,
+    store: Store,
     explain: bool,
-) -> anyhow::Result<()> {
-    match line {
-        Line::Drive { .. } => Ok(()),
-        Line::Call(call) => {
-            let reply = bench.call(call);
-            show_reply(rt, bench, &reply)?;
-            if explain {
-                place(rt, bench, call.axis)
-            } else {
-                Ok(())
+}
+
+impl Rail<'_> {
+    // What is said to a line that is a call.
+    fn answer(&mut self, line: Line) -> anyhow::Result<()> {
+        match line {
+            Line::Drive { .. } => Ok(()),
+            Line::Call(call) => {
+                let reply = self.bench.call(call);
+                self.show_reply(&reply)?;
+                self.place(call.axis)
             }
-        }
-        Line::Read { measure, text } => {
-            let reading = Reading::of(text, measure);
-            show(rt, bench, &reading)?;
-            if explain {
-                say(rt, reading.in_words())
-            } else {
-                Ok(())
+            Line::Read { measure, text } => {
+                let reading = Reading::of(text, measure);
+                self.show(&reading)?;
+                self.say(reading.in_words())
             }
-        }
-        Line::Program(call) => {
-            let reply = call.run(store);
-            show_reply(rt, bench, &reply.map_err(Located))?;
-            if explain {
-                say(rt, in_words(&reply))
-            } else {
-                Ok(())
+            Line::Program(call) => {
+                let reply = call.run(&mut self.store);
+                self.show_reply(&reply.map_err(Located))?;
+                self.say(in_words(&reply))
             }
         }
     }
-}
 
-fn show_reply<E: fmt::Display>(
-    rt: &HostRuntime,
-    bench: &Bench,
-    reply: &Result<(), E>,
-) -> anyhow::Result<()> {
-    match reply {
-        Ok(()) => show(rt, bench, &"ok"),
-        Err(fault) => show(rt, bench, fault),
-    }
-}
-
-fn show<T: fmt::Display>(rt: &HostRuntime, bench: &Bench, reply: &T) -> anyhow::Result<()> {
-    let (x, y, z) = bench.counts();
-    println!(rt; "{reply} | {x} {y} {z}")?;
-    Ok(())
-}
-
-fn say(rt: &HostRuntime, words: &str) -> anyhow::Result<()> {
-    println!(rt; "  {words}")?;
-    Ok(())
-}
-
-fn place(rt: &HostRuntime, bench: &Bench, axis: u8) -> anyhow::Result<()> {
-    match bench.position(axis) {
-        Some(position) => println!(rt; "  axis {axis}: {position}")?,
-        None => println!(rt; "  there is no axis {axis}")?,
-    }
-    Ok(())
-}
-
-fn account(rt: &HostRuntime, bench: &Bench) -> anyhow::Result<()> {
-    for axis in 1..4 {
-        if let Some(position) = bench.position(axis) {
-            println!(rt; "axis {axis} stands: {position}")?;
+    fn show_reply<E: fmt::Display>(&self, reply: &Result<(), E>) -> anyhow::Result<()> {
+        match reply {
+            Ok(()) => self.show(&"ok"),
+            Err(fault) => self.show(fault),
         }
     }
-    Ok(())
+
+    fn show<T: fmt::Display>(&self, reply: &T) -> anyhow::Result<()> {
+        let (x, y, z) = self.bench.counts();
+        println!(self.rt; "{reply} | {x} {y} {z}")?;
+        Ok(())
+    }
+
+    // The plain words to an answer, where they are wanted.
+    fn say(&self, words: &str) -> anyhow::Result<()> {
+        if self.explain {
+            println!(self.rt; "  {words}")?;
+        }
+        Ok(())
+    }
+
+    // Where an axis stands after a call, where that is wanted.
+    fn place(&self, axis: u8) -> anyhow::Result<()> {
+        if !self.explain {
+            return Ok(());
+        }
+        match self.bench.position(axis) {
+            Some(position) => println!(self.rt; "  axis {axis}: {position}")?,
+            None => println!(self.rt; "  there is no axis {axis}")?,
+        }
+        Ok(())
+    }
+
+    fn account(&self) -> anyhow::Result<()> {
+        for axis in 1..4 {
+            if let Some(position) = self.bench.position(axis) {
+                println!(self.rt; "axis {axis} stands: {position}")?;
+            }
+        }
+        Ok(())
+    }
 }

@@ -6,13 +6,12 @@ ghost use Rattle.states.specs.Shift.{offset_by};
 ghost use Rattle.states.specs.Courses.{course_rate};
 ghost use Rattle.states.specs.State.{with_work};
 ghost use Rattle.states.specs.View.{reading_of, raw_in, going_in, course_in, work_of, status_of};
-ghost use Rattle.ticks.specs.Blocks.{with_words, block_target, target_verdict, block_verdict, showing, begun_with, begun_reply, block_run, block_reply, next_run, next_reply, next_block, take_step, take_reply};
+ghost use Rattle.ticks.specs.Blocks.{with_words, block_target, target_verdict, block_verdict, showing, begun_with, begun_reply, take_step, take_reply};
 
 use crate::moving::after_block;
 use reader::{Block, Way};
-use states::asking::AxisView;
 use states::effects::fault_in;
-use states::{Aim, AxisFault, Cause, Reading, Record, Run, State, Wish};
+use states::{Aim, AxisFault, AxisView, Cause, Reading, Record, Run, State, Wish};
 use store::Store;
 
 /// Takes the next block of a program; one that has none left is over.
@@ -24,7 +23,14 @@ pub fn take(axis: &mut Record, reading: Reading, store: &Store, run: Run) -> Res
         axis.work.state = State::Standing;
         return Ok(());
     };
-    run_block(axis, reading, &block, with_words(&block, run))
+    let run = with_words(&block, run);
+    let Some(x) = block.target else {
+        show(axis, run);
+        axis.work.state = after_block(axis.work.mode, false, run);
+        return Ok(());
+    };
+    let asked = ask_block(axis, reading, run, x);
+    begin(axis, asked, run)
 }
 
 // The block's words take effect before its X is reckoned.
@@ -41,19 +47,6 @@ fn with_words(block: &Block, run: Run) -> Run
         feed: block.feed.or(run.feed),
         auxiliary: block.auxiliary,
     }
-}
-
-// A block with its words, with or without X.
-fn run_block(axis: &mut Record, reading: Reading, block: &Block, run: Run) -> Result<(), AxisFault>
-    ensures value { result ≡ block_reply block.now.target (course_in run) (reading_of reading) (raw_in axis.old.machine) (status_of axis.old).work }
-    ensures after { status_of axis.new ≡ with_work (block_run block.now.target (course_in run) (reading_of reading) (raw_in axis.old.machine) (status_of axis.old).work) (status_of axis.old) }
-{
-    let Some(x) = block.target else {
-        show(axis, run);
-        axis.work.state = after_block(axis.work.mode, false, run);
-        return Ok(());
-    };
-    begin(axis, ask_block(axis, reading, x, run), run)
 }
 
 // The M of a block shows from the tick that takes it.
@@ -84,53 +77,64 @@ fn begin(axis: &mut Record, asked: Result<Aim, Cause>, run: Run) -> Result<(), A
 }
 
 // 18 to 21 of a block with X.
-fn ask_block(axis: &Record, reading: Reading, x: i32, run: Run) -> Result<Aim, Cause>
+fn ask_block(axis: &Record, reading: Reading, run: Run, x: i32) -> Result<Aim, Cause>
     ensures { result ≡ block_verdict (raw_in axis.now.machine) (course_in run) x (reading_of reading) (status_of axis.now).work }
 {
     let Some(view) = axis.view(reading) else {
         return Err(Cause::NoMachineData);
     };
-    ask_target(&view, x, &run)
+    let wanted = BlockMove { view, run, x };
+    wanted.ask()
 }
 
-fn ask_target(view: &AxisView, x: i32, run: &Run) -> Result<Aim, Cause>
-    ensures { (g : Going) → result ≡ target_verdict (data_of view.now.machine.now) (course_in run.now) x (reading_of view.now.reading) (work_of g view.now.work.now) }
-{
-    view.ask_move(wish(view, x, run))
+// The X of a block, under the words that hold, asked of the axis.
+#[derive(Clone, Copy)]
+struct BlockMove<'a> {
+    view: AxisView<'a>,
+    run: Run,
+    x: i32,
 }
 
-fn wish(view: &AxisView, x: i32, run: &Run) -> Wish
-    ensures { (g : Going) → result ≡ record { target = block_target (data_of view.now.machine.now) (course_in run.now) x (work_of g view.now.work.now); rate = course_rate (data_of view.now.machine.now) (course_in run.now) } }
-{
-    Wish {
-        target: match run.way {
-            Way::Absolute => shifted(view, x, run),
-            Way::Relative => moved(view, x),
-        },
-        rate: run.rate(view.machine),
+impl BlockMove<'_> {
+    fn ask(&self) -> Result<Aim, Cause>
+        ensures { (g : Going) → result ≡ target_verdict (data_of self.now.view.machine.now) (course_in self.now.run) self.now.x (reading_of self.now.view.reading) (work_of g self.now.view.work.now) }
+    {
+        self.view.ask_move(self.wish())
     }
-}
 
-// Under G90: X and the shift, with the offset that the program has chosen.
-fn shifted(view: &AxisView, x: i32, run: &Run) -> i64
-    ensures { result ≡ (x +ℤ ((view.now.work.now.offset +ℤ view.now.work.now.tool) +ℤ offset_by (data_of view.now.machine.now) run.now.offset)) }
-{
-    let shift = program_shift(view, run);
-    i64::from(x) + shift
-}
+    fn wish(&self) -> Wish
+        ensures { (g : Going) → result ≡ record { target = block_target (data_of self.now.view.machine.now) (course_in self.now.run) self.now.x (work_of g self.now.view.work.now); rate = course_rate (data_of self.now.view.machine.now) (course_in self.now.run) } }
+    {
+        Wish {
+            target: match self.run.way {
+                Way::Absolute => self.shifted(),
+                Way::Relative => self.moved(),
+            },
+            rate: self.run.rate(self.view.machine),
+        }
+    }
 
-fn program_shift(view: &AxisView, run: &Run) -> i64
-    ensures value { result ≡ ((view.now.work.now.offset +ℤ view.now.work.now.tool) +ℤ offset_by (data_of view.now.machine.now) run.now.offset) }
-    ensures small { unsigned_abs result ≤ 6442450944 }
-{
-    let own = view.work.own_shift();
-    let chosen = i64::from(run.chosen_offset(view.machine));
-    own + chosen
-}
+    // Under G90: X and the shift, with the offset that the program has chosen.
+    fn shifted(&self) -> i64
+        ensures { result ≡ (self.now.x +ℤ ((self.now.view.work.now.offset +ℤ self.now.view.work.now.tool) +ℤ offset_by (data_of self.now.view.machine.now) self.now.run.offset)) }
+    {
+        let shift = self.shift();
+        i64::from(self.x) + shift
+    }
 
-// Under G91: a distance from the coordinate.
-fn moved(view: &AxisView, x: i32) -> i64
-    ensures { result ≡ (view.now.work.now.coordinate +ℤ x) }
-{
-    i64::from(view.work.coordinate) + i64::from(x)
+    fn shift(&self) -> i64
+        ensures value { result ≡ ((self.now.view.work.now.offset +ℤ self.now.view.work.now.tool) +ℤ offset_by (data_of self.now.view.machine.now) self.now.run.offset) }
+        ensures small { unsigned_abs result ≤ 6442450944 }
+    {
+        let own = self.view.work.own_shift();
+        let chosen = i64::from(self.run.chosen_offset(self.view.machine));
+        own + chosen
+    }
+
+    // Under G91: a distance from the coordinate.
+    fn moved(&self) -> i64
+        ensures { result ≡ (self.now.view.work.now.coordinate +ℤ self.now.x) }
+    {
+        i64::from(self.view.work.coordinate) + i64::from(self.x)
+    }
 }

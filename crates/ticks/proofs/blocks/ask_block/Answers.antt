@@ -1,6 +1,6 @@
 use Rattle.std.proofs.Common.{◌≡◌, ℤ, Some, Option, subst, ap, ◌∙◌, w32}
-use Rattle.std.specs.Option.{IfSome, option_map}
 use Rattle.std.proofs.Math.Facts.{to_z-of_z}
+use Rattle.std.specs.Option.{IfSome, option_map}
 use Rattle.motion.specs.declared.raw.RawData.{RawData}
 use Rattle.motion.specs.Entry.{data_of}
 use Rattle.motion.specs.Travel.{Going}
@@ -27,8 +27,8 @@ returns c =
     let g = going_in a.machine in
     let e = c.view.ensures in
     let v = c.in-Some.view in
-    (rw (to_z-of_z {w = w32} c.ranges.x) at c.ask_target.ensures g)
+    (rw (to_z-of_z {w = w32} c.ranges.x) at c.ask.ensures g)
     ∙ seen g (course_in c.args.run) c.args.x v (raw_in a.machine) a.work c.args.reading
-      (subst (λ o. option_map (λ (u : AxisView). data_of u.machine.now) o ≡ raw_in a.machine) c.in-Some.is e.machine)
-      (subst (λ o. IfSome o (λ (u : AxisView). u.work.now ≡ a.work)) c.in-Some.is e.work)
-      (subst (λ o. IfSome o (λ (u : AxisView). u.reading ≡ c.args.reading)) c.in-Some.is e.reading)
+    (subst (λ o. option_map (λ (u : AxisView). data_of u.machine.now) o ≡ raw_in a.machine) c.in-Some.is e.machine)
+    (subst (λ o. IfSome o (λ (u : AxisView). u.work.now ≡ a.work)) c.in-Some.is e.work)
+    (subst (λ o. IfSome o (λ (u : AxisView). u.reading ≡ c.args.reading)) c.in-Some.is e.reading)
