@@ -9,7 +9,7 @@ use drives::fault::{DriveFault, Refusal};
 use std::fmt;
 
 /// The drives that a script asks for; an axis without one has a stage at 0.
-#[derive(Clone, Copy)]
+#[derive(Clone, Copy, Default)]
 pub struct Plan {
     first: Option<Build>,
     second: Option<Build>,
@@ -17,14 +17,6 @@ pub struct Plan {
 }
 
 impl Plan {
-    pub fn new() -> Plan {
-        Plan {
-            first: None,
-            second: None,
-            third: None,
-        }
-    }
-
     pub fn add(&mut self, axis: u8, build: Build) -> Result<(), Mistake> {
         let before = match axis {
             1 => self.first.replace(build),
@@ -68,7 +60,7 @@ impl fmt::Display for CallFault {
     }
 }
 
-/// The three axes of the rail.
+/// The three axes of the rail. A script may name any number, so each call that takes one asks it by a `match`.
 #[derive(Drop)]
 pub struct Bench {
     first: Axis,

@@ -51,7 +51,7 @@ fn new_store(rt: &HostRuntime) -> anyhow::Result<Store> {
 
 // The drive lines before the first call.
 fn plan_drives(lines: &[&[u8]]) -> Result<Plan, Stop> {
-    let mut plan = Plan::new();
+    let mut plan = Plan::default();
     for (i, line) in lines.iter().enumerate() {
         match read(*line, i)? {
             None => {}

@@ -26,15 +26,19 @@ pub struct Words<'a> {
     rest: Option<&'a [u8]>,
 }
 
-impl<'a> Words<'a> {
-    pub fn new(line: &'a [u8]) -> Words<'a> {
-        Words { rest: Some(line) }
-    }
+impl<'a> Iterator for Words<'a> {
+    type Item = &'a [u8];
 
-    pub fn next(&mut self) -> Option<&'a [u8]> {
+    fn next(&mut self) -> Option<&'a [u8]> {
         let (word, after) = cut(self.rest?, b' ');
         self.rest = after;
         Some(word)
+    }
+}
+
+impl<'a> Words<'a> {
+    pub fn new(line: &'a [u8]) -> Words<'a> {
+        Words { rest: Some(line) }
     }
 
     pub fn word(&mut self, field: Field) -> Result<&'a [u8], Mistake> {

@@ -8,7 +8,7 @@ use units::Measure;
 // The greatest X, in units.
 const MOST_UNITS: u32 = 40_000_000;
 
-// How many digits stand in front.
+// How many digits stand in front. This and its like are each one chain of the library's: a function over the test would only name the chain again.
 fn digit_len(bytes: &[u8]) -> usize
     ensures value { result ≡ prefix_len digit bytes.now }
     ensures bound { result ≤ length bytes.now }

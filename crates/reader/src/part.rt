@@ -73,7 +73,7 @@ impl Word<'_> {
     }
 }
 
-// How many blanks stand in front.
+// How many blanks stand in front: one chain of the library's, as for digits and for numbers.
 fn blank_len(bytes: &[u8]) -> usize
     ensures value { result ≡ prefix_len blank bytes.now }
     ensures bound { result ≤ length bytes.now }

@@ -19,6 +19,8 @@ fn step_in<F: FnOnce(&mut Mover) -> Passed>(machine: &mut Option<Mover>, step: F
     }
 }
 
+// That the data stay is said of each change: no fact of the type can speak of before and after.
+
 /// A tick of the move in progress.
 #[tactic(auto, unfolding(crate::specs::Moves::ticked_in))]
 pub fn tick_in(machine: &mut Option<Mover>) -> Passed

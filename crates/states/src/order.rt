@@ -11,6 +11,7 @@ pub enum Command {
 /// An order to one axis, any values. What a mode does not use is ignored.
 #[derive(Clone, Copy, Debug)]
 pub struct Order {
+    /// a number as the host sends it, which may be of no mode
     pub mode: u8,
     pub command: Command,
     /// the program of a start of modes 8 and 9

@@ -41,6 +41,7 @@ pub(crate) fn after_block(mode: Mode, moved: bool, run: Run) -> State
     if ends_program(run.auxiliary) {
         return State::Standing;
     }
+    // An M number is a word of the program, of which three act.
     match run.auxiliary {
         Some(0) => held(run, None),
         _ => after_step(mode, moved, run),
@@ -83,6 +84,8 @@ fn stopped_short(journey: Journey) -> State
         Some(run) => held(run, Some(journey.target)),
     }
 }
+
+// The three below take axis, move and reading: a struct of them would have to hold the axis that is changed, and say no more.
 
 /// After the pulses of a tick of motion: where the axis is, and whether the move is complete.
 pub fn settle(axis: &mut Record, journey: Journey, reading: Reading, complete: bool)
