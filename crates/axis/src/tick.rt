@@ -58,7 +58,7 @@ impl<D: Drive> Axis<D> {
     {
         let reading = self.reading();
         let levels = self.levels();
-        // The two arms of a move ask for trouble alike: as a step that may change the axis and return early, that got no proof by itself.
+        // The two arms of a move ask for trouble alike: a step of its own for that, which changes the axis and returns early, gets no proof by itself.
         match (&mut self.status.work.state, levels) {
             (State::Standing, _) | (State::Held(_), _) => Ok(()),
             (State::BetweenBlocks(run), _) => {

@@ -64,58 +64,12 @@ impl Request<'_> {
         if !values_fit(mode, self.order) {
             return Err(Cause::ValueOutside);
         }
-        self.ask_mode(&view, mode)
-    }
-
-    fn ask_mode(&self, view: &AxisView, mode: Mode) -> Result<Plan, Cause>
-        ensures { (g : Going) → result ≡ mode_verdict mode self.now.order (store_of self.now.store.now) (reading_of view.now.reading) (data_of view.now.machine.now) (work_of g view.now.work.now) }
-    {
-        match mode {
-            Mode::AxisOff => Ok(Plan::OnlyMode),
-            Mode::ClearFault => Ok(Plan::OnlyClear),
-            Mode::Reference => Ok(Plan::Zero),
-            Mode::Jog(_) => ask_go(view, jog(view, self.order)),
-            Mode::Position => ask_go(view, position(view, self.order)),
-            Mode::Relative => ask_go(view, relative(view, self.order)),
-            Mode::Program(_) if self.order.command == Command::TakeOver => self.ask_resume(view),
-            Mode::Program(_) => self.ask_start(view),
-            Mode::OffsetTo => Ok(Plan::NewOffset(ask_shift(given(self.order))?)),
-            Mode::OffsetBy => Ok(Plan::NewOffset(ask_shift(added(view, self.order))?)),
-            Mode::ClearOffset => Ok(Plan::NewOffset(0)),
-            Mode::ToolTo => Ok(Plan::NewTool(ask_shift(given(self.order))?)),
-            Mode::ClearTool => Ok(Plan::NewTool(0)),
-        }
-    }
-
-    // 14 and 15.
-    fn ask_start(&self, view: &AxisView) -> Result<Plan, Cause>
-        ensures { result ≡ start_verdict (data_of view.now.machine.now) self.now.order (store_of self.now.store.now) }
-    {
-        let program = self.order.byte;
-        let Some(measure) = self.store.measure_of(program) else {
-            return Err(Cause::NotStored);
+        let asked = StandingRequest {
+            view,
+            store: self.store,
+            order: self.order,
         };
-        if measure != view.machine.values().measure {
-            return Err(Cause::OtherMeasure);
-        }
-        Ok(Plan::Begin(program))
-    }
-
-    // 16 and 17, and 21 where a target is unfinished.
-    fn ask_resume(&self, view: &AxisView) -> Result<Plan, Cause>
-        ensures { (g : Going) → result ≡ resume_verdict (data_of view.now.machine.now) (store_of self.now.store.now) (reading_of view.now.reading) (phase_of g view.now.work.now.state) view.now.work.now.zero }
-    {
-        let State::Held(hold) = view.work.state else {
-            return Err(Cause::NothingHeld);
-        };
-        if self.store.measure_of(hold.run.program).is_none() {
-            return Err(Cause::HeldNotStored);
-        }
-        let Some(target) = hold.unfinished else {
-            return Ok(Plan::Continue);
-        };
-        view.reading.ask_ready()?;
-        Ok(Plan::Resume(view.aim(target, hold.run.rate(view.machine))))
+        asked.ask(mode)
     }
 }
 
@@ -130,57 +84,138 @@ fn ask_bare(mode: Mode) -> Result<Plan, Cause>
     }
 }
 
-// 18 to 21.
-fn ask_go(view: &AxisView, wish: Wish) -> Result<Plan, Cause>
-    ensures { result ≡ go_verdict (data_of view.now.machine.now) wish.rate wish.target (reading_of view.now.reading) view.now.work.now.zero view.now.work.now.referenced }
-{
-    Ok(Plan::Go(view.ask_move(wish)?))
+// An order to an axis that stands and has machine data.
+#[derive(Clone, Copy)]
+struct StandingRequest<'a> {
+    view: AxisView<'a>,
+    store: &'a Store,
+    order: Order,
 }
 
-// As far as the axis may go.
-fn jog(view: &AxisView, order: Order) -> Wish
-    ensures { (g : Going) → result ≡ record { target = jog_target (data_of view.now.machine.now) order (work_of g view.now.work.now); rate = rate_by (data_of view.now.machine.now) order.word } }
-{
-    let span = view.limits();
-    let target = if order.command == Command::Forward {
-        span.high
-    } else {
-        span.low
-    };
-    Wish {
-        target: i64::from(target),
-        rate: view.machine.rate_of(order.word),
+impl StandingRequest<'_> {
+    fn ask(&self, mode: Mode) -> Result<Plan, Cause>
+        ensures { (g : Going) → result ≡ mode_verdict mode self.now.order (store_of self.now.store.now) (reading_of self.now.view.reading) (data_of self.now.view.machine.now) (work_of g self.now.view.work.now) }
+    {
+        match mode {
+            Mode::AxisOff => Ok(Plan::OnlyMode),
+            Mode::ClearFault => Ok(Plan::OnlyClear),
+            Mode::Reference => Ok(Plan::Zero),
+            Mode::Jog(_) => self.go(self.jog()),
+            Mode::Position => self.go(self.position()),
+            Mode::Relative => self.go(self.relative()),
+            Mode::Program(_) if self.order.command == Command::TakeOver => self.ask_resume(),
+            Mode::Program(_) => self.ask_start(),
+            Mode::OffsetTo => Ok(Plan::NewOffset(ask_shift(self.given())?)),
+            Mode::OffsetBy => Ok(Plan::NewOffset(ask_shift(self.added())?)),
+            Mode::ClearOffset => Ok(Plan::NewOffset(0)),
+            Mode::ToolTo => Ok(Plan::NewTool(ask_shift(self.given())?)),
+            Mode::ClearTool => Ok(Plan::NewTool(0)),
+        }
     }
-}
 
-fn position(view: &AxisView, order: Order) -> Wish
-    ensures { (g : Going) → result ≡ record { target = position_target order (work_of g view.now.work.now); rate = rate_by (data_of view.now.machine.now) order.word } }
-{
-    let shift = view.work.own_shift();
-    Wish {
-        target: i64::from(order.double) + shift,
-        rate: view.machine.rate_of(order.word),
+    // 18 to 21.
+    fn go(&self, wish: Wish) -> Result<Plan, Cause>
+        ensures { result ≡ go_verdict (data_of self.now.view.machine.now) wish.rate wish.target (reading_of self.now.view.reading) self.now.view.work.now.zero self.now.view.work.now.referenced }
+    {
+        Ok(Plan::Go(self.view.ask_move(wish)?))
     }
-}
 
-fn relative(view: &AxisView, order: Order) -> Wish
-    ensures { (g : Going) → result ≡ record { target = relative_target order (work_of g view.now.work.now); rate = rate_by (data_of view.now.machine.now) order.word } }
-{
-    Wish {
-        target: moved(view, order),
-        rate: view.machine.rate_of(order.word),
+    // As far as the axis may go.
+    fn jog(&self) -> Wish
+        ensures { (g : Going) → result ≡ record { target = jog_target (data_of self.now.view.machine.now) self.now.order (work_of g self.now.view.work.now); rate = rate_by (data_of self.now.view.machine.now) self.now.order.word } }
+    {
+        let span = self.view.limits();
+        let target = if self.order.command == Command::Forward {
+            span.high
+        } else {
+            span.low
+        };
+        Wish {
+            target: i64::from(target),
+            rate: self.rate(),
+        }
     }
-}
 
-fn moved(view: &AxisView, order: Order) -> i64
-    ensures { result ≡ cond (goes_forward order.command) (view.now.work.now.coordinate +ℤ order.double) (view.now.work.now.coordinate -ℤ order.double) }
-{
-    let here = i64::from(view.work.coordinate);
-    let distance = i64::from(order.double);
-    if order.command == Command::Forward {
-        here + distance
-    } else {
-        here - distance
+    fn position(&self) -> Wish
+        ensures { (g : Going) → result ≡ record { target = position_target self.now.order (work_of g self.now.view.work.now); rate = rate_by (data_of self.now.view.machine.now) self.now.order.word } }
+    {
+        let shift = self.view.work.own_shift();
+        Wish {
+            target: i64::from(self.order.double) + shift,
+            rate: self.rate(),
+        }
+    }
+
+    fn relative(&self) -> Wish
+        ensures { (g : Going) → result ≡ record { target = relative_target self.now.order (work_of g self.now.view.work.now); rate = rate_by (data_of self.now.view.machine.now) self.now.order.word } }
+    {
+        Wish {
+            target: self.moved(),
+            rate: self.rate(),
+        }
+    }
+
+    // The rate of the speed that the order gives.
+    fn rate(&self) -> u64
+        ensures { result ≡ rate_by (data_of self.now.view.machine.now) self.now.order.word }
+    {
+        self.view.machine.rate_of(self.order.word)
+    }
+
+    fn moved(&self) -> i64
+        ensures { result ≡ cond (goes_forward self.now.order.command) (self.now.view.work.now.coordinate +ℤ self.now.order.double) (self.now.view.work.now.coordinate -ℤ self.now.order.double) }
+    {
+        let here = i64::from(self.view.work.coordinate);
+        let distance = i64::from(self.order.double);
+        if self.order.command == Command::Forward {
+            here + distance
+        } else {
+            here - distance
+        }
+    }
+
+    fn given(&self) -> i64
+        ensures { result ≡ self.now.order.double }
+    {
+        i64::from(self.order.double)
+    }
+
+    fn added(&self) -> i64
+        ensures { result ≡ (self.now.view.work.now.offset +ℤ self.now.order.double) }
+    {
+        i64::from(self.view.work.offset) + i64::from(self.order.double)
+    }
+
+    // 14 and 15.
+    fn ask_start(&self) -> Result<Plan, Cause>
+        ensures { result ≡ start_verdict (data_of self.now.view.machine.now) self.now.order (store_of self.now.store.now) }
+    {
+        let program = self.order.byte;
+        let Some(measure) = self.store.measure_of(program) else {
+            return Err(Cause::NotStored);
+        };
+        if measure != self.view.machine.values().measure {
+            return Err(Cause::OtherMeasure);
+        }
+        Ok(Plan::Begin(program))
+    }
+
+    // 16 and 17, and 21 where a target is unfinished.
+    fn ask_resume(&self) -> Result<Plan, Cause>
+        ensures { (g : Going) → result ≡ resume_verdict (data_of self.now.view.machine.now) (store_of self.now.store.now) (reading_of self.now.view.reading) (phase_of g self.now.view.work.now.state) self.now.view.work.now.zero }
+    {
+        let State::Held(hold) = self.view.work.state else {
+            return Err(Cause::NothingHeld);
+        };
+        if self.store.measure_of(hold.run.program).is_none() {
+            return Err(Cause::HeldNotStored);
+        }
+        let Some(target) = hold.unfinished else {
+            return Ok(Plan::Continue);
+        };
+        self.view.reading.ask_ready()?;
+        let rate = hold.run.rate(self.view.machine);
+        Ok(Plan::Resume(self.view.aim(target, rate)))
     }
 }
 
@@ -193,16 +228,4 @@ fn ask_shift(units: i64) -> Result<i32, Cause>
         return Err(Cause::ShiftOutside);
     }
     Ok(units as i32)
-}
-
-fn given(order: Order) -> i64
-    ensures { result ≡ order.double }
-{
-    i64::from(order.double)
-}
-
-fn added(view: &AxisView, order: Order) -> i64
-    ensures { result ≡ (view.now.work.now.offset +ℤ order.double) }
-{
-    i64::from(view.work.offset) + i64::from(order.double)
 }

@@ -12,6 +12,7 @@ use motion::MachineData;
 use states::{AxisFault, Cause, Hold, Mode, Reading, Record, Run, State};
 
 /// Carries out what an accepted order is to do.
+// Axis and reading stand apart here, since the axis is changed.
 pub fn carry_out(axis: &mut Record, reading: Reading, mode: Mode, plan: Plan)
     ensures { status_of axis.new ≡ carried (mode_number mode) plan (reading_of reading) (status_of axis.old) }
 {

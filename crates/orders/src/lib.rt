@@ -1,10 +1,12 @@
 //! Orders to one axis: the questions in their order, and what an accepted order does.
 #![tactic(auto)]
 
-mod asking;
-mod effects;
+pub mod asking;
+pub mod effects;
 mod modes;
-mod ordering;
-mod plan;
+pub mod ordering;
+pub mod plan;
 
+pub use asking::Request;
 pub use ordering::order;
+pub use plan::{Accepted, Plan};

@@ -13,7 +13,7 @@ pub(crate) fn admits(mode: Mode, command: Command) -> bool
         ),
         Mode::Position => matches!(command, Command::Start | Command::Stop),
         Mode::Program(_) => matches!(command, Command::Start | Command::Stop | Command::TakeOver),
-        _ => matches!(command, Command::Start),
+        _ => command == Command::Start,
     }
 }
 
@@ -42,7 +42,7 @@ fn uses_double(mode: Mode) -> bool
 fn goes_one_way(mode: Mode) -> bool
     ensures { result ≡ goes_one_way mode }
 {
-    matches!(mode, Mode::Relative)
+    mode == Mode::Relative
 }
 
 // Whether the speed and the double word, where this mode uses them, are in range.

@@ -11,20 +11,17 @@ use std::fmt;
 /// The drives that a script asks for; an axis without one has a stage at 0.
 #[derive(Clone, Copy, Default)]
 pub struct Plan {
-    first: Option<Build>,
-    second: Option<Build>,
-    third: Option<Build>,
+    builds: [Option<Build>; 3],
 }
 
 impl Plan {
     pub fn add(&mut self, axis: u8, build: Build) -> Result<(), Mistake> {
-        let before = match axis {
-            1 => self.first.replace(build),
-            2 => self.second.replace(build),
-            3 => self.third.replace(build),
-            _ => return Err(Mistake::NoSuchAxis),
-        };
-        match before {
+        let index = axis.checked_sub(1).ok_or(Mistake::NoSuchAxis)?;
+        let slot = self
+            .builds
+            .get_mut(usize::from(index))
+            .ok_or(Mistake::NoSuchAxis)?;
+        match slot.replace(build) {
             Some(_) => Err(Mistake::DriveTwice),
             None => Ok(()),
         }
@@ -35,7 +32,7 @@ fn make(build: Option<Build>) -> Result<Axis, DriveFault> {
     Axis::new(build.unwrap_or(Build::Clock { count: 0 }))
 }
 
-/// Why a call on an axis is turned away.
+/// Why a call on an axis is refused.
 #[derive(Clone, Copy, PartialEq, Eq, Debug)]
 pub enum CallFault {
     Refused(Refusal),
@@ -60,7 +57,8 @@ impl fmt::Display for CallFault {
     }
 }
 
-/// The three axes of the rail. A script may name any number, so each call that takes one asks it by a `match`.
+/// The three axes of the rail.
+// Fields and no array: the contract of a call names each of the three.
 #[derive(Drop)]
 pub struct Bench {
     first: Axis,
@@ -70,10 +68,11 @@ pub struct Bench {
 
 impl Bench {
     pub fn new(plan: Plan) -> Result<Bench, DriveFault> {
+        let [first, second, third] = plan.builds;
         Ok(Bench {
-            first: make(plan.first)?,
-            second: make(plan.second)?,
-            third: make(plan.third)?,
+            first: make(first)?,
+            second: make(second)?,
+            third: make(third)?,
         })
     }
 

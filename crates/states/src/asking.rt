@@ -28,7 +28,7 @@ impl Span {
         ensures { result ≡ cond (int_le self.low wish.target && int_le wish.target self.high) (Some wish.target) None }
     {
         // As `contains` of a range it gets no proof that the cast loses nothing.
-        if self.low as i64 <= wish.target && wish.target <= self.high as i64 {
+        if i64::from(self.low) <= wish.target && wish.target <= i64::from(self.high) {
             Some(wish.target as i32)
         } else {
             None
@@ -88,7 +88,7 @@ impl AxisView<'_> {
     fn rate_fits(&self, wish: Wish) -> bool
         ensures { result ≡ (nat_le 1 wish.rate && nat_le wish.rate (data_of self.now.machine.now).fm) }
     {
-        (1..=self.machine.values().fm as u64).contains(&wish.rate)
+        (1..=u64::from(self.machine.values().fm)).contains(&wish.rate)
     }
 
     /// The limits of the machine data; without a reference those of a jog.

@@ -28,7 +28,7 @@ impl Run {
         ensures { result ≡ course_rate (data_of machine.now) (course_in self.now) }
     {
         match self.motion {
-            Motion::Rapid => machine.values().fm as u64,
+            Motion::Rapid => u64::from(machine.values().fm),
             Motion::Feed => machine.rate_of(self.feed.unwrap_or(0)),
         }
     }

@@ -19,7 +19,7 @@ fn step_in<F: FnOnce(&mut Mover) -> Passed>(machine: &mut Option<Mover>, step: F
     }
 }
 
-// That the data stay is said of each change: no fact of the type can speak of before and after.
+// Each contract says that the data stay: no fact of a type holds before and after a change.
 
 /// A tick of the move in progress.
 #[tactic(auto, unfolding(crate::specs::Moves::ticked_in))]

@@ -52,7 +52,7 @@ impl Record {
         ensures { result ≡ (self.now.work.coordinate -ℤ shift_of (raw_in self.now.machine) (status_of self.now).work) }
     {
         let shift = self.shift();
-        self.work.coordinate as i64 - shift
+        i64::from(self.work.coordinate) - shift
     }
 
     // What is left of a move.
@@ -60,8 +60,9 @@ impl Record {
         ensures { result ≡ rest_in (status_of self.now).work.phase self.now.work.coordinate }
     {
         match self.work.state {
-            State::Moving(journey) | State::Braking(journey) => journey.target as i64
-                - self.work.coordinate as i64,
+            State::Moving(journey) | State::Braking(journey) => {
+                i64::from(journey.target) - i64::from(self.work.coordinate)
+            }
             State::Standing | State::Held(_) | State::BetweenBlocks(_) => 0,
         }
     }

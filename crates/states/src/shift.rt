@@ -48,7 +48,7 @@ impl Working {
         ensures value { result ≡ (self.now.offset +ℤ self.now.tool) }
         ensures small { unsigned_abs result ≤ 4294967296 }
     {
-        self.offset as i64 + self.tool as i64
+        i64::from(self.offset) + i64::from(self.tool)
     }
 }
 
@@ -68,6 +68,6 @@ impl Record {
         ensures value { result ≡ shift_of (raw_in self.now.machine) (status_of self.now).work }
         ensures small { unsigned_abs result ≤ 6442450944 }
     {
-        self.work.own_shift() + self.program_offset() as i64
+        self.work.own_shift() + i64::from(self.program_offset())
     }
 }

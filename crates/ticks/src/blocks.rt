@@ -87,7 +87,7 @@ fn ask_block(axis: &Record, reading: Reading, run: Run, x: i32) -> Result<Aim, C
     wanted.ask()
 }
 
-// The X of a block, under the words that hold, asked of the axis.
+// A block's X with the program that it belongs to, asked of the axis.
 #[derive(Clone, Copy)]
 struct BlockMove<'a> {
     view: AxisView<'a>,

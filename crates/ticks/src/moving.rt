@@ -35,13 +35,13 @@ pub fn is_ahead(journey: Journey, switches: Switches) -> bool
 }
 
 /// A block is done: what follows by its M and by the mode.
-pub(crate) fn after_block(mode: Mode, moved: bool, run: Run) -> State
+pub fn after_block(mode: Mode, moved: bool, run: Run) -> State
     ensures { (g : Going) → phase_of g result ≡ done_with (mode_number mode) moved (course_in run) }
 {
     if ends_program(run.auxiliary) {
         return State::Standing;
     }
-    // An M number is a word of the program, of which three act.
+    // An M may be any of 0 to 99, as the program has it; only 00, 02 and 30 act.
     match run.auxiliary {
         Some(0) => held(run, None),
         _ => after_step(mode, moved, run),
@@ -85,7 +85,7 @@ fn stopped_short(journey: Journey) -> State
     }
 }
 
-// The three below take axis, move and reading: a struct of them would have to hold the axis that is changed, and say no more.
+// Axis and reading go together here and in the taking of blocks: a struct of both would have to hold the axis that is changed.
 
 /// After the pulses of a tick of motion: where the axis is, and whether the move is complete.
 pub fn settle(axis: &mut Record, journey: Journey, reading: Reading, complete: bool)

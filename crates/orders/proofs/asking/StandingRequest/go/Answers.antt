@@ -4,11 +4,11 @@ use Rattle.states.specs.Moves.{Questions, move_questions, aim_for}
 use Rattle.states.specs.View.{reading_of}
 use Rattle.states.proofs.Asked.{carried, refused}
 use Rattle.orders.specs.declared.plan.Plan.TheVariants.{Go}
-use Rattle.orders.proofs.asking.ask_go.Goals as goal
+use Rattle.orders.proofs.asking.StandingRequest.go.Goals as goal
 
 pub returns-in_err-ask_move : goal.returns-in_err-ask_move
 returns-in_err-ask_move c =
-    let v = c.args.view.now in
+    let v = c.args.self.now.view in
     let d = data_of v.machine.now in
     let m = reading_of v.reading in
     let qs : Questions = move_questions d c.args.wish.rate c.args.wish.target m v.work.now.zero v.work.now.referenced in
@@ -18,7 +18,7 @@ returns-in_err-ask_move c =
 
 pub returns : goal.returns
 returns c =
-    let v = c.args.view.now in
+    let v = c.args.self.now.view in
     let d = data_of v.machine.now in
     let m = reading_of v.reading in
     let qs : Questions = move_questions d c.args.wish.rate c.args.wish.target m v.work.now.zero v.work.now.referenced in
