@@ -59,14 +59,10 @@ impl<D: Drive> Axis<D> {
         let reading = self.reading();
         let levels = self.levels();
         // The two arms of a move ask for trouble alike: a step of its own for that, which changes the axis and returns early, gets no proof by itself.
-        match (&mut self.status.work.state, levels) {
+        match (self.status.work.state, levels) {
             (State::Standing, _) | (State::Held(_), _) => Ok(()),
-            (State::BetweenBlocks(run), _) => {
-                let run = *run;
-                take(&mut self.status, reading, store, run)
-            }
+            (State::BetweenBlocks(run), _) => { take(&mut self.status, reading, store, run) }
             (State::Moving(journey), levels) => {
-                let journey = *journey;
                 if let Some(cause) = trouble(journey, levels) {
                     return Err(fail(&mut self.status, journey, reading, cause));
                 }
@@ -74,7 +70,6 @@ impl<D: Drive> Axis<D> {
                 Ok(())
             }
             (State::Braking(journey), levels) => {
-                let journey = *journey;
                 if let Some(cause) = trouble(journey, levels) {
                     return Err(fail(&mut self.status, journey, reading, cause));
                 }
