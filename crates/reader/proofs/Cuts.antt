@@ -37,7 +37,7 @@ taken_word b bs h = cond-false (eqb b 40) _ _ (ne_eqb b 40 h)
 
 -- the part of a line's first bytes, and what is left after it
 abbrev pub Whole : Measure → ℕ → List ℕ → Piece → ℕ → List ℕ → Type 0
-Whole m at xs p to ys = (cut m 0 at xs ≡ part p (cut m 0 to ys)) × (length ys < length xs)
+Whole m at xs p to ys = (cut m 0 at xs ≡ part p (cut m 0 to ys)) × (to + length ys ≡ at + length xs) × (length ys < length xs)
 
 pub cut_remark : (m : Measure) (at n to : ℕ) (xs text closed ys : List ℕ) → n ≡ prefix_len inside xs → n < length xs → text ≡ take n xs → closed ≡ drop n xs → ys ≡ drop 1 closed → to ≡ at + 1 + (n + 1) → Whole m at (40 ∷ xs) (remark text at) to ys
 cut_remark m at n to xs text closed ys p h q c e w =
@@ -46,15 +46,17 @@ cut_remark m at n to xs text closed ys p h q c e w =
     let o : opened m at 40 xs ≡ Some (remark text at) = remark-closed at xs (subst (λ k. k < length xs) p h) ∙ ap Some is in (
       cut_step m at 40 xs (Some (remark text at)) (n + 1) (λ z. omega arith) o (ap (λ k. k + 1) (sym p))
           ∙ ap (part (remark text at)) (ap (λ a. cut m 0 a (drop (n + 1) xs)) (sym w) ∙ ap (cut m 0 to) (sym after)),
+      omega (arith, h, w, ap length after ∙ length-drop (n + 1) xs),
       omega (arith, ap length after ∙ length-drop (n + 1) xs),
     )
 
-pub cut_word : (m : Measure) (at n to b : ℕ) (l : Letter) (xs number bytes : List ℕ) → (b ≡ 32 → ⊥) → (b ≡ 40 → ⊥) → letter_of b ≡ Some l → n ≡ prefix_len numeric xs → number ≡ take n xs → bytes ≡ drop n xs → to ≡ at + 1 + n → formed m l number ≡ true → Whole m at (b ∷ xs) (word l number at) to bytes
-cut_word m at n to b l xs number bytes g h i p q e w f =
+pub cut_word : (m : Measure) (at n to b : ℕ) (l : Letter) (xs number bytes : List ℕ) → (b ≡ 32 → ⊥) → (b ≡ 40 → ⊥) → letter_of b ≡ Some l → n ≡ prefix_len numeric xs → number ≡ take n xs → bytes ≡ drop n xs → to ≡ at + 1 + n → n ≤ length xs → formed m l number ≡ true → Whole m at (b ∷ xs) (word l number at) to bytes
+cut_word m at n to b l xs number bytes g h i p q e w le f =
     let is : number ≡ take (prefix_len numeric xs) xs = q ∙ ap (λ k. take k xs) p in
     let o : opened m at b xs ≡ Some (word l number at) = opened-word m at b xs l h i (sym (ap (formed m l) is) ∙ f) ∙ ap (λ t. Some (word l t at)) (sym is) in (
       cut_step m at b xs (Some (word l number at)) n g o (taken_word b xs h ∙ sym p)
           ∙ ap (part (word l number at)) (ap (λ a. cut m 0 a (drop n xs)) (sym w) ∙ ap (cut m 0 to) (sym e)),
+      omega (arith, le, w, ap length e ∙ length-drop n xs),
       omega (arith, ap length e ∙ length-drop n xs),
     )
 
@@ -76,6 +78,6 @@ cut_blanks m at (b ∷ bs) = blanks_by m at b bs (blank b) refl (cut_blanks m (s
 pub left_start : (m : Measure) (r s : Rest) (k : ℕ) → k ≡ prefix_len blank r.bytes.now → s.bytes.now ≡ drop k r.bytes.now → s.at ≡ r.at + k → left m r ≡ left m s
 left_start m r s k n b a = cut_blanks m r.at r.bytes.now ∙ cc
 
-pub begins_start : (m : Measure) (r s : Rest) (b : ℕ) (ys : List ℕ) (o : Result (Part × Rest) LineFault) → left m r ≡ left m s → length s.bytes.now ≤ length r.bytes.now → s.bytes.now ≡ b ∷ ys → Begins m s.at (b ∷ ys) o → Begins m r.at r.bytes.now o
-begins_start m r s b ys (Err f) same le e i = (i.0, same ∙ ap (cut m 0 s.at) e ∙ i.1, i.2)
-begins_start m r s b ys (Ok n) same le e i = (same ∙ ap (cut m 0 s.at) e ∙ i.0, omega (arith, i.1, le, ap length e))
+pub begins_start : (m : Measure) (r s : Rest) (b : ℕ) (ys : List ℕ) (o : Result (Part × Rest) LineFault) → left m r ≡ left m s → s.at + length s.bytes.now ≡ r.at + length r.bytes.now → length s.bytes.now ≤ length r.bytes.now → s.bytes.now ≡ b ∷ ys → Begins m s.at (b ∷ ys) o → Begins m r.at r.bytes.now o
+begins_start m r s b ys (Err f) same end le e i = (i.0, same ∙ ap (cut m 0 s.at) e ∙ i.1, i.2)
+begins_start m r s b ys (Ok n) same end le e i = (same ∙ ap (cut m 0 s.at) e ∙ i.0, omega (arith, i.1, end, ap length e), omega (arith, i.2, le, ap length e))

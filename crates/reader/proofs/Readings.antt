@@ -167,7 +167,8 @@ cut_reads m _ _ _ _ (blank at bs ps o r) =
     subst (λ a. (pieces (cut m 0 a bs) ≡ ps) × (fault_in (cut m 0 a bs) ≡ o)) e (cut_reads m (at + 1) bs ps o r)
 cut_reads m _ _ _ _ (a_word at l n bs ps o run stops w r) =
     cut-part m at (at + 1 + length n) (byte_of l ∷ (n ++ bs)) bs (word l n at) ps o
-    (cut_word m at (prefix_len numeric (n ++ bs)) (at + 1 + length n) (byte_of l) l (n ++ bs) n bs (no_blank l) (no_remark l) (byte_letter l) refl (sym (take-run numeric n bs run stops)) (sym (drop-run numeric n bs run stops)) (ap (λ k. at + 1 + k) (sym (leading_run numeric n bs run stops))) (well_to m l n w)).0
+    (cut_word m at (prefix_len numeric (n ++ bs)) (at + 1 + length n) (byte_of l) l (n ++ bs) n bs (no_blank l) (no_remark l) (byte_letter l) refl (sym (take-run numeric n bs run stops)) (sym (drop-run numeric n bs run stops)) (ap (λ k. at + 1 + k) (sym (leading_run numeric n bs run stops)))
+    (omega (arith, leading_run numeric n bs run stops, length-append n bs)) (well_to m l n w)).0
     (cut_reads m (at + 1 + length n) bs ps o r)
 cut_reads m _ _ _ _ (a_remark at t bs ps o run r) =
     cut-part m at (at + 2 + length t) (40 ∷ (t ++ (41 ∷ bs))) bs (remark t at) ps o

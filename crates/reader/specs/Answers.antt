@@ -81,6 +81,6 @@ WithinLimits blocks xs r = length xs ≤ 80 → blocks < 64 → (e : LineFault) 
 abbrev pub ValuesSaid : Measure → Type 0
 ValuesSaid m = (l : Letter) (n : List ℕ) (v : Value) → WellFormed m l n → (value_of m l n ≡ Some v → Says m l n v) × (Says m l n v → value_of m l n ≡ Some v)
 
--- the number of a G word is that of what it says, and says that
+-- preparatory and code_of are inverse: the number of a G word says g just where it is the number of g
 abbrev pub CodesRead : Type 0
 CodesRead = (n : ℕ) (g : Preparatory) → (preparatory n ≡ Some g → n ≡ code_of g) × (n ≡ code_of g → preparatory n ≡ Some g)

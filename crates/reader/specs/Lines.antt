@@ -72,7 +72,7 @@ left m r = cut m 0 r.at r.bytes.now
 -- the first part of what stands in a line from the byte at on, or the fault that there is none
 abbrev pub Begins : Measure → ℕ → List ℕ → Result (Part × Rest) LineFault → Type 0
 Begins m at xs (Err e) = (to : ℕ) × (cut m 0 at xs ≡ broken to) × (e ≡ Form to)
-Begins m at xs (Ok n) = (cut m 0 at xs ≡ part (shown n.0) (left m n.1)) × (length n.1.bytes.now < length xs)
+Begins m at xs (Ok n) = (cut m 0 at xs ≡ part (shown n.0) (left m n.1)) × (n.1.at + length n.1.bytes.now ≡ at + length xs) × (length n.1.bytes.now < length xs)
 
 -- the same in any measure, as for a remark
 abbrev pub BeginsAny : ℕ → List ℕ → Result (Part × Rest) LineFault → Type 0

@@ -43,7 +43,7 @@ pub(crate) enum Group {
     Ways,
 }
 
-// A number or a byte that stands for nothing.
+// A number that no G word has, or a byte that no word's letter has.
 #[derive(Clone, Copy)]
 pub(crate) struct Unknown;
 

@@ -73,7 +73,7 @@ impl Word<'_> {
     }
 }
 
-// How many blanks stand in front: one chain of the library's, as for digits and for numbers.
+// How many blanks stand in front. This, number_len and digit_len are one iterator expression each; a function over the test would only name it again.
 fn blank_len(bytes: &[u8]) -> usize
     ensures value { result ≡ prefix_len blank bytes.now }
     ensures bound { result ≤ length bytes.now }
@@ -138,6 +138,7 @@ impl<'a> Rest<'a> {
     fn after_blanks(self) -> Rest<'a>
         ensures same { (m : Measure) → left m self.entry ≡ left m result }
         ensures start { Stops blank result.bytes.now }
+        ensures end { result.at + length result.bytes.now ≡ self.entry.at + length self.entry.bytes.now }
         ensures bound { length result.bytes.now ≤ length self.entry.bytes.now }
     {
         let (_, start) = self.split_at(blank_len(self.bytes));

@@ -1,20 +1,21 @@
 ghost use Rattle.std.specs.Prelude.{◌≡◌, ◌+◌, ◌≤◌, ◌∷◌, length, take, drop, MatchOption, []};
+ghost use Rattle.reader.specs.declared.rest.TheConstants.{MOST_BYTES};
 
 // The most bytes of a line.
 pub(crate) const MOST_BYTES: usize = 80;
 
-// What is left of a line of at most 80 bytes, and the byte at which it starts.
+// What is left of a line of at most that many bytes, and the byte at which it starts.
 #[derive(Clone, Copy)]
 pub(crate) struct Rest<'a> {
     pub(crate) bytes: &'a [u8],
     pub(crate) at: usize,
-    ghost within: { at + length bytes.now ≤ 80 },
+    ghost within: { at + length bytes.now ≤ MOST_BYTES },
 }
 
 impl<'a> Rest<'a> {
     // A whole line.
     pub(crate) fn of(line: &'a [u8]) -> Rest<'a>
-        requires { length line.now ≤ 80 }
+        requires { length line.now ≤ MOST_BYTES }
         ensures bytes { result.bytes.now ≡ line.now }
         ensures place { result.at ≡ 0 }
     {

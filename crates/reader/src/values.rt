@@ -1,4 +1,4 @@
-ghost use Rattle.std.specs.Prelude.{◌≡◌, ◌≤◌, map};
+ghost use Rattle.std.specs.Prelude.{◌≡◌, map};
 ghost use Rattle.reader.specs.Words.{onto, within, value_of};
 ghost use Rattle.reader.specs.Lines.{shown};
 ghost use Rattle.reader.specs.Questions.{Added, Ranged};
