@@ -1,4 +1,5 @@
-ghost use Rattle.std.specs.Prelude.{◌≡◌, ◌&&◌};
+ghost use Rattle.std.specs.Prelude.{◌≡◌, ◌&&◌, Decides};
+ghost use Rattle.motion.specs.Data.{Ordered, Spread, Referenced};
 ghost use Rattle.motion.specs.Questions.{ordered, placed, refusal};
 ghost use Rattle.motion.specs.Entry.{data_of, fault_in, Checked, Entered};
 
@@ -10,7 +11,8 @@ use crate::raw::RawData;
 impl RawData {
     // The data agree, as far as is seen without the ramp.
     fn agrees(&self) -> bool
-        ensures { result ≡ (ordered self.now && placed self.now) }
+        ensures value { result ≡ (ordered self.now && placed self.now) }
+        ensures means { Decides result (Ordered self.now × Spread self.now × Referenced self.now) }
     {
         self.fs <= self.fm
             && self.low < self.high
