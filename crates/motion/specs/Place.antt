@@ -12,7 +12,7 @@ Summed f v p = p.sum ≡ way f v p.step
 abbrev pub Runs : Ramp → Going → Place → Type 0
 Runs f g p = (p.step ≤ 4096) × Summed f g.rate p × (p.sum ≤ g.left)
 
--- where a tick has a place, the move can run at it; with none there is nothing to ask
+-- a move can run at the place, if there is one
 abbrev pub PlaceRuns : Ramp → Going → Option Place → Type 0
 PlaceRuns f g None = ⊤
 PlaceRuns f g (Some p) = Runs f g p

@@ -4,7 +4,7 @@ ghost use Rattle.motion.specs.Questions.{ordered, placed, refusal};
 ghost use Rattle.motion.specs.Entry.{data_of, fault_in, Checked, Entered};
 
 use crate::fault::DataFault;
-use crate::machine::MachineData;
+use crate::machine::{MachineData, STEPS};
 use crate::ramp::first_steps;
 use crate::raw::RawData;
 
@@ -38,7 +38,7 @@ impl TryFrom<RawData> for MachineData {
             return Err(DataFault::Disagree);
         }
         let table = first_steps(&raw);
-        if table[4095] != raw.fm {
+        if table[STEPS - 1] != raw.fm {
             return Err(DataFault::Disagree);
         }
         Ok(MachineData { values: raw, table })
