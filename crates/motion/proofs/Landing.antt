@@ -3,7 +3,7 @@ use Rattle.std.proofs.Common.{◌≡◌, ℕ, ◌+◌, ◌-◌, ◌≤◌, Bool,
 use Rattle.std.specs.List.{find}
 use Rattle.motion.specs.Ramp.{Ramp}
 use Rattle.motion.specs.Travel.{Going, gain, way, in_ramp, fits, chosen, left_at, ticked}
-use Rattle.motion.specs.Place.{Summed, Runs, CanRun, left_after, run_at}
+use Rattle.motion.specs.Place.{Summed, Runs, PlaceRuns, left_after, run_at}
 use Rattle.motion.specs.View.{mover_ramp, going_of}
 use Rattle.motion.specs.declared.mover.Mover.{Mover}
 use Rattle.motion.specs.declared.mover.Place.{Place}
@@ -25,11 +25,11 @@ module _ (f : Ramp) (g : Going) where
   abbrev Lands : Option Place → Place → Type 0
   Lands p q = (q.step ≤ 4096) × Summed f g.rate q × (way f g.rate (q.step - 1) ≤ left_after f g p) × (left_after f g p ≤ g.left)
 
-  lands_on : (p : Option Place) → CanRun f g p → Lands p (unwrap_or p (record { step = 0; sum = 0 }))
+  lands_on : (p : Option Place) → PlaceRuns f g p → Lands p (unwrap_or p (record { step = 0; sum = 0 }))
   lands_on None r = (omega arith, sym (way-none f g.rate), omega (arith, way-none f g.rate), omega arith)
   lands_on (Some p) r = (r.0, r.1, omega (arith, r.1, r.2, way_last f g.rate p.step), omega arith)
 
-  pub lands : (p : Option Place) (q : Place) → CanRun f g p → q ≡ unwrap_or p (record { step = 0; sum = 0 }) → Lands p q
+  pub lands : (p : Option Place) (q : Place) → PlaceRuns f g p → q ≡ unwrap_or p (record { step = 0; sum = 0 }) → Lands p q
   lands p q r e = subst (Lands p) (sym e) (lands_on p r)
 
 module _ (m : Mover) where
@@ -64,7 +64,7 @@ module _ (m : Mover) where
     down : fits f g (g.step - 1) ≡ test b
     down = sym (ap (fits f g) hb) ∙ tests b sb
 
-    first-runs : (x y z : Bool) → test a ≡ x → test m.place ≡ y → test b ≡ z → CanRun f g (first x y z a m.place b)
+    first-runs : (x y z : Bool) → test a ≡ x → test m.place ≡ y → test b ≡ z → PlaceRuns f g (first x y z a m.place b)
     first-runs true y z d e h = runs_at a (omega (arith, m.steps)) sa d
     first-runs false true z d e h = runs_at m.place (omega (arith, m.steps)) m.summed e
     first-runs false false true d e h = runs_at b (omega (arith, m.steps)) sb h
@@ -78,8 +78,8 @@ module _ (m : Mover) where
         at_chosen f g b (hb ∙ chose_down f g (up ∙ d) (tests m.place m.summed ∙ e) (down ∙ h)) (starts b sb h)
     first-ticks false false false d e h = at_none f g (chose_none f g (up ∙ d) (tests m.place m.summed ∙ e) (down ∙ h))
 
-    pub found-runs : (r : Option Place) → r ≡ find test (a ∷ m.place ∷ b ∷ []) → CanRun f g r
-    found-runs r e = subst (CanRun f g) (sym e) (first-runs (test a) (test m.place) (test b) refl refl refl)
+    pub found-runs : (r : Option Place) → r ≡ find test (a ∷ m.place ∷ b ∷ []) → PlaceRuns f g r
+    found-runs r e = subst (PlaceRuns f g) (sym e) (first-runs (test a) (test m.place) (test b) refl refl refl)
 
     pub found-ticks : (r : Option Place) → r ≡ find test (a ∷ m.place ∷ b ∷ []) → run_at f g r ≡ ticked f g
     found-ticks r e = ap (run_at f g) e ∙ first-ticks (test a) (test m.place) (test b) refl refl refl

@@ -12,10 +12,10 @@ Summed f v p = p.sum ≡ way f v p.step
 abbrev pub Runs : Ramp → Going → Place → Type 0
 Runs f g p = (p.step ≤ 4096) × Summed f g.rate p × (p.sum ≤ g.left)
 
--- each place that is given can be run
-abbrev pub CanRun : Ramp → Going → Option Place → Type 0
-CanRun f g None = ⊤
-CanRun f g (Some p) = Runs f g p
+-- a move can run at the place, if there is one
+abbrev pub PlaceRuns : Ramp → Going → Option Place → Type 0
+PlaceRuns f g None = ⊤
+PlaceRuns f g (Some p) = Runs f g p
 
 -- the step of a place, 0 with none
 abbrev pub step_of : Option Place → ℕ

@@ -1,16 +1,18 @@
-ghost use Rattle.std.specs.Prelude.{◌≡◌, ◌&&◌};
+ghost use Rattle.std.specs.Prelude.{◌≡◌, ◌&&◌, Decides};
+ghost use Rattle.motion.specs.Data.{Ordered, Spread, Referenced};
 ghost use Rattle.motion.specs.Questions.{ordered, placed, refusal};
 ghost use Rattle.motion.specs.Entry.{data_of, fault_in, Checked, Entered};
 
 use crate::fault::DataFault;
-use crate::machine::MachineData;
+use crate::machine::{MachineData, STEPS};
 use crate::ramp::first_steps;
 use crate::raw::RawData;
 
 impl RawData {
     // The data agree, as far as is seen without the ramp.
     fn agrees(&self) -> bool
-        ensures { result ≡ (ordered self.now && placed self.now) }
+        ensures value { result ≡ (ordered self.now && placed self.now) }
+        ensures means { Decides result (Ordered self.now × Spread self.now × Referenced self.now) }
     {
         self.fs <= self.fm
             && self.low < self.high
@@ -36,7 +38,7 @@ impl TryFrom<RawData> for MachineData {
             return Err(DataFault::Disagree);
         }
         let table = first_steps(&raw);
-        if table[4095] != raw.fm {
+        if table[STEPS - 1] != raw.fm {
             return Err(DataFault::Disagree);
         }
         Ok(MachineData { values: raw, table })

@@ -4,11 +4,14 @@ ghost use Rattle.std.specs.Prelude.{◌≡◌, ℕ, ◌-◌, ◌≤◌, slice_in
 
 use crate::raw::RawData;
 
+// How many steps the longest ramp has.
+pub(crate) const STEPS: usize = 4096;
+
 /// Machine data that were checked, with their ramp: step i stands at place i - 1 of the table.
 #[derive(Drop)]
 pub struct MachineData {
     pub(crate) values: RawData,
-    pub(crate) table: [u32; 4096],
+    pub(crate) table: [u32; STEPS],
     ghost frequencies: { Frequencies values },
     ghost signal: { Signal values },
     ghost gear: { Gear values },

@@ -1,4 +1,4 @@
-ghost use Rattle.std.specs.Prelude.{◌≡◌, ℕ, ◌-◌, ◌*◌, ◌^◌, ◌≤◌};
+ghost use Rattle.std.specs.Prelude.{◌≡◌, ◌-◌, ◌*◌, ◌^◌, ◌≤◌};
 ghost use Rattle.motion.specs.Ramp.{ramp_of};
 ghost use Rattle.motion.specs.Travel.{way};
 
@@ -18,7 +18,7 @@ impl Place {
 }
 
 /// Machine data with the numbers of a move in progress.
-// Its facts stand as ghost fields and not behind one value: the law over all movers and the sum of a place speak of them.
+// Ghost fields and no model: the law over all movers names them.
 #[derive(Drop)]
 pub struct Mover {
     pub(crate) machine: MachineData,

@@ -2,6 +2,7 @@ ghost use Rattle.std.specs.Prelude.{◌≡◌, ℕ, ◌<◌, ◌≤◌, slice_in
 ghost use Rattle.motion.specs.Data.{Frequencies, Ordered};
 ghost use Rattle.motion.specs.Ramp.{next_of, after_first};
 
+use crate::machine::STEPS;
 use crate::raw::RawData;
 
 // The frequency of the step after one of frequency f.
@@ -20,14 +21,14 @@ fn next(raw: &RawData, f: u32) -> u32
     (u64::from(f) + rise).min(u64::from(raw.fm)) as u32
 }
 
-// The first 4,096 steps of the ramp; past its end they stay at the maximum frequency.
+// The first steps of the ramp, as many as the longest ramp has; past its end they stay at the maximum frequency.
 #[tactic(auto, using(crate::proofs::Rising::steps))]
-pub(crate) fn first_steps(raw: &RawData) -> [u32; 4096]
+pub(crate) fn first_steps(raw: &RawData) -> [u32; STEPS]
     requires fit { Frequencies raw.now }
     requires ordered { Ordered raw.now }
-    ensures { (k : ℕ) → k < 4096 → slice_index result k ≡ after_first raw.now.fs raw.now.fm raw.now.increase k }
+    ensures { (k : ℕ) → k < STEPS → slice_index result k ≡ after_first raw.now.fs raw.now.fm raw.now.increase k }
 {
-    let mut steps = [0; 4096];
+    let mut steps = [0; STEPS];
     let mut f = raw.fs;
     for step in &mut steps {
         *step = f;

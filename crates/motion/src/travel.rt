@@ -1,8 +1,8 @@
-ghost use Rattle.std.specs.Prelude.{◌≡◌, ◌+◌, ◌-◌, ◌≤◌, ◌&&◌, nat_le};
+ghost use Rattle.std.specs.Prelude.{◌≡◌, ◌+◌, ◌-◌, ◌&&◌, nat_le};
 ghost use Rattle.motion.specs.Ramp.{ramp_of};
 ghost use Rattle.motion.specs.Entry.{data_of};
-ghost use Rattle.motion.specs.Travel.{gain, in_ramp, chosen, ticked, braked, begun, idle, passed_in, passing};
-ghost use Rattle.motion.specs.Place.{Summed, CanRun, step_of, left_after, run_at};
+ghost use Rattle.motion.specs.Travel.{gain, in_ramp, ticked, braked, begun, idle, passed_in, passing};
+ghost use Rattle.motion.specs.Place.{Summed, PlaceRuns, left_after, run_at};
 ghost use Rattle.motion.specs.View.{mover_data, mover_ramp, going_of};
 
 use crate::machine::MachineData;
@@ -68,7 +68,7 @@ impl Mover {
 
     // The place of the next tick, none where the move is complete.
     fn next_place(&self) -> Option<Place>
-        ensures runs { CanRun (mover_ramp self.now) (going_of self.now) result }
+        ensures runs { PlaceRuns (mover_ramp self.now) (going_of self.now) result }
         ensures after { run_at (mover_ramp self.now) (going_of self.now) result ≡ ticked (mover_ramp self.now) (going_of self.now) }
     {
         [self.above(), self.place, self.below()]
@@ -80,7 +80,7 @@ impl Mover {
     // What is left after a tick at a place; with none the move is complete.
     #[tactic(auto, using(crate::proofs::Way::ways))]
     fn left_after(&self, place: Option<Place>) -> u128
-        requires { CanRun (mover_ramp self.now) (going_of self.now) place }
+        requires { PlaceRuns (mover_ramp self.now) (going_of self.now) place }
         ensures { result ≡ left_after (mover_ramp self.now) (going_of self.now) place }
     {
         match place {
@@ -98,7 +98,7 @@ impl Mover {
 
     // A tick at a place; with none the move is complete.
     fn run(&mut self, place: Option<Place>) -> Passed
-        requires { CanRun (mover_ramp self.old) (going_of self.old) place }
+        requires { PlaceRuns (mover_ramp self.old) (going_of self.old) place }
         ensures same { mover_data self.new ≡ mover_data self.old }
         ensures after { going_of self.new ≡ run_at (mover_ramp self.old) (going_of self.old) place }
         ensures value { result ≡ passing (going_of self.old) (going_of self.new) }

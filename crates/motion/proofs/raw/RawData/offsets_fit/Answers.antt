@@ -2,7 +2,9 @@ use Rattle.std.proofs.Common.{◌≡◌, ◌∙◌, Bool, true, false, ◌&&◌,
 use Rattle.std.specs.List.{list_all}
 use Rattle.std.proofs.lemmas.Iterator.{YieldsList-from_slice}
 use Rattle.std.proofs.lemmas.Iterator.Search.{all_from_yields_List}
-use Rattle.motion.specs.Questions.{reachable}
+use Rattle.std.proofs.lemmas.Bool.Decides.{Decides-at}
+use Rattle.motion.specs.Questions.{reachable, offsets}
+use Rattle.motion.proofs.Questions.{offsets_decides}
 use Rattle.motion.proofs.raw.RawData.offsets_fit.Goals as goal
 
 pairs : (a b c d : Bool) → (a && (b && (c && (d && true)))) ≡ ((a && b) && (c && d))
@@ -21,7 +23,13 @@ all_of_four (a ∷ b ∷ c ∷ []) e = absurd (omega arith)
 all_of_four (a ∷ b ∷ c ∷ d ∷ []) e = pairs (reachable a) (reachable b) (reachable c) (reachable d)
 all_of_four (a ∷ b ∷ c ∷ d ∷ x ∷ xs) e = absurd (omega arith)
 
-pub returns : goal.returns
-returns c =
+value : (c : goal.After-all) → c.all.result ≡ offsets c.args.self.now
+value c =
     all_from_yields_List reachable _ _ _ c.all.ensures.ran (YieldsList-from_slice c.args.self.now.offsets (cc)) (λ x b q k. search (rules, tests))
     ∙ all_of_four c.args.self.now.offsets (search rules)
+
+pub returns-clause-value : goal.returns-clause-value
+returns-clause-value = value
+
+pub returns-clause-means : goal.returns-clause-means
+returns-clause-means c = Decides-at _ _ (value c) (offsets_decides c.args.self.now)
