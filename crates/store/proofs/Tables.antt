@@ -1,6 +1,6 @@
 -- Lists of records and the programs that they hold.
 use Rattle.std.proofs.Common.{◌≡◌, ℕ, ◌+◌, ◌<◌, ◌≤◌, Bool, false, cond, eqb, List, [], ◌∷◌, map, length, remove, Some, None, Ok, Err, Option, Result, option_map, refl, ap, arith}
-use Rattle.std.specs.List.{find, position, position_or_len}
+use Rattle.std.specs.List.{find, position, position_or_len, slice_get}
 use Rattle.std.proofs.Math.Numerals.{one-add}
 use Rattle.std.proofs.lemmas.Bool.Decides.{nat_tests}
 use Rattle.store.specs.declared.record.Record.{Record}
@@ -28,6 +28,7 @@ there n (r ∷ rs) h =
     let k : ℕ = position_or_len (named n) rs in
     let more : k < length rs → Placed n rs (Some k) = there n rs in
     let later : map program_of (remove (r ∷ rs) (1 + k)) ≡ program_of r ∷ map program_of (remove rs k) = ap (λ j. map program_of (remove (r ∷ rs) j)) (one-add k) in
+    let here : option_map program_of (slice_get (r ∷ rs) (1 + k)) ≡ option_map program_of (slice_get rs k) = ap (λ j. option_map program_of (slice_get (r ∷ rs) j)) (one-add k) in
     grind arith
 
 pub placed : (n : ℕ) (rs : List Record) → Placed n rs (position (named n) rs)

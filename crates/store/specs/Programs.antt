@@ -1,5 +1,5 @@
 -- A small store: the stored programs, in the order of their closing, and the open entry.
-use Rattle.std.specs.Prelude.{◌≡◌, ℕ, ◌<◌, cond, List, [], ◌∷◌, ◌++◌, map, length, Some, None, Ok, Err, vec_items, is_some, remove, true, Option, Result, ◌==◌, nat_lt, slice_index_or}
+use Rattle.std.specs.Prelude.{◌≡◌, ℕ, ◌<◌, cond, List, [], ◌∷◌, ◌++◌, map, length, Some, None, Ok, Err, vec_items, remove, Option, Result, ◌==◌, nat_lt, slice_index_or, slice_get}
 use Rattle.std.specs.Option.{option_map}
 use Rattle.units.specs.declared.Measure.{Measure}
 use Rattle.reader.specs.declared.block.Block.{Block}
@@ -43,10 +43,10 @@ abbrev pub without : ℕ → List Program → List Program
 without n [] = []
 without n (p ∷ ps) = cond (p.number == n) ps (p ∷ without n ps)
 
--- where the record of a number stands, and what its removal leaves
+-- where the record of a number stands, the program that it holds, and what its removal leaves
 abbrev pub Placed : ℕ → List Record → Option ℕ → Type 0
 Placed n rs None = (found n (map program_of rs) ≡ None) × (without n (map program_of rs) ≡ map program_of rs)
-Placed n rs (Some i) = (i < length rs) × (is_some (found n (map program_of rs)) ≡ true) × (without n (map program_of rs) ≡ map program_of (remove rs i))
+Placed n rs (Some i) = (i < length rs) × (found n (map program_of rs) ≡ option_map program_of (slice_get rs i)) × (without n (map program_of rs) ≡ map program_of (remove rs i))
 
 abbrev pub block_at : List Block → ℕ → Option Block
 block_at bs k = cond (nat_lt k (length bs)) (Some (slice_index_or bs k reading.empty)) None

@@ -18,7 +18,7 @@ impl<D: Drive> TakeUp<D> {
         if direction == self.flank {
             1
         } else {
-            self.play as u64 + 1
+            u64::from(self.play) + 1
         }
     }
 }
@@ -53,12 +53,12 @@ impl<D: Drive> Drive for TakeUp<D> {
     fn count(&self) -> i64 {
         match self.flank {
             Direction::Forward => self.below.count(),
-            Direction::Backward => self.below.count() + self.play as i64,
+            Direction::Backward => self.below.count() + i64::from(self.play),
         }
     }
 
     fn least(&self) -> i64 {
-        self.below.least() + self.play as i64
+        self.below.least() + i64::from(self.play)
     }
 
     fn greatest(&self) -> i64 {

@@ -5,16 +5,16 @@ ghost use Rattle.drives.specs.TakeUp.{Laid};
 use crate::direction::Direction;
 use crate::drive::Drive;
 use crate::fault::DriveFault;
-use crate::take_up::{Counts, NotLaid, TakeUp};
+use crate::take_up::{Counts, LayerRefused, TakeUp};
 
 impl<D: Drive> TakeUp<D> {
     /// A layer with its flank forward. It is made only where the count below is at
     /// least the play above its least; else the drive is handed back.
-    pub fn new(below: D, play: u16) -> Result<TakeUp<D>, NotLaid<D>>
+    pub fn new(below: D, play: u16) -> Result<TakeUp<D>, LayerRefused<D>>
         ensures { Laid D.Drive.meaning below play result }
     {
-        if below.least() + play as i64 > below.count() {
-            return Err(NotLaid {
+        if below.least() + i64::from(play) > below.count() {
+            return Err(LayerRefused {
                 below,
                 fault: DriveFault::NotMade,
             });

@@ -27,15 +27,15 @@ pub struct TakeUp<D: Drive> {
 
 /// Why a layer was not made, and the drive that was to be below it.
 #[derive(Debug, Drop)]
-pub struct NotLaid<D> {
+pub struct LayerRefused<D> {
     pub below: D,
     pub fault: DriveFault,
 }
 
-impl<D: Drop> From<NotLaid<D>> for DriveFault {
+impl<D: Drop> From<LayerRefused<D>> for DriveFault {
     ghost from_gives = { λ refused fault. fault ≡ refused.fault };
 
-    fn from(refused: NotLaid<D>) -> DriveFault {
+    fn from(refused: LayerRefused<D>) -> DriveFault {
         refused.fault
     }
 }

@@ -19,14 +19,14 @@ impl Record {
 fn may_close(blocks: &[Block]) -> bool
     ensures { result ≡ closable blocks.now }
 {
-    let mut modes = Modes {
+    let mut holding = Holding {
         motion: Motion::Rapid,
         feed: None,
     };
     let mut rest = blocks;
     while let Some((block, later)) = rest.split_first() {
-        modes = modes.in_block(block);
-        if !modes.fit(block, later.is_empty()) {
+        holding = holding.in_block(block);
+        if !holding.fit(block, later.is_empty()) {
             return false;
         }
         rest = later;
@@ -36,19 +36,19 @@ fn may_close(blocks: &[Block]) -> bool
 
 // The motion group and the feed that hold in a block.
 #[derive(Clone, Copy)]
-struct Modes {
+struct Holding {
     motion: Motion,
     feed: Option<u16>,
 }
 
-impl Modes {
+impl Holding {
     // The block's own words, else what held before. A feed holds until the next
     // one, whatever the motion group.
-    fn in_block(self, block: &Block) -> Modes
+    fn in_block(self, block: &Block) -> Holding
         ensures motion { result.motion ≡ unwrap_or block.now.motion self.motion }
         ensures feed { result.feed ≡ option_or block.now.feed self.feed }
     {
-        Modes {
+        Holding {
             motion: block.motion.unwrap_or(self.motion),
             feed: block.feed.or(self.feed),
         }

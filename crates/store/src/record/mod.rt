@@ -7,9 +7,10 @@ use units::Measure;
 mod closing;
 mod fill;
 
+// The reader has the same bound of its own.
 const MOST_BLOCKS: usize = 64;
 
-/// The room of one program, with room for all its blocks from the beginning.
+/// One program, with room for all its blocks from the beginning.
 /// Of a free record the fields mean nothing.
 #[derive(Drop)]
 pub(crate) struct Record {

@@ -8,7 +8,7 @@ use crate::fault::StoreFault;
 use crate::table::{MOST_PROGRAMS, Store};
 use units::Measure;
 
-// Each call on an entry stands twice, by token and by number: a token is spent
+// Each call on an entry has two forms, by token and by number: a token is spent
 // or handed back, a number is neither. The rules are in the calls by number.
 impl Store {
     /// Opens the entry of a program and gives its token.
