@@ -1,6 +1,4 @@
 ghost use Rattle.std.specs.Prelude.{◌≡◌};
-ghost use Rattle.drives.specs.Meaning.{Meaning};
-ghost use Rattle.states.specs.State.{AxisState};
 ghost use Rattle.states.specs.View.{reading_of};
 ghost use Rattle.axis.specs.View.{state_of};
 ghost use Rattle.laws.specs.Acts.{new_axis};

@@ -1,6 +1,5 @@
 ghost use Rattle.std.specs.Prelude.{◌≡◌};
 ghost use Rattle.drives.specs.Sending.{sent};
-ghost use Rattle.motion.specs.Travel.{Going};
 ghost use Rattle.store.specs.Programs.{store_of};
 ghost use Rattle.states.specs.View.{reading_of, raw_in, going_in, travel_of};
 ghost use Rattle.states.specs.Moves.{direction_of, ticked_in, braked_in};

@@ -2,7 +2,7 @@ ghost use Rattle.std.specs.Prelude.{◌≡◌, ◌≤◌, ◌-ℤ◌, unsigned_a
 ghost use Rattle.motion.specs.Entry.{data_of};
 ghost use Rattle.motion.specs.Places.{pulses_by};
 ghost use Rattle.motion.specs.Travel.{Going};
-ghost use Rattle.states.specs.State.{with_work, with_fault, with_phase, stopped};
+ghost use Rattle.states.specs.State.{with_work, stopped};
 ghost use Rattle.states.specs.Mode.{mode_number};
 ghost use Rattle.states.specs.View.{reading_of, raw_in, status_of, phase_of};
 ghost use Rattle.orders.specs.Effects.{taken, taken_over, zeroed, gone_on, halted, carried, refused};

@@ -1,5 +1,5 @@
-ghost use Rattle.std.specs.Prelude.{◌≡◌, not, ◌&&◌, ◌||◌};
-ghost use Rattle.orders.specs.Modes.{admits, needs_reference, values_fit, speed_fits, in_reach, bare, uses_speed, uses_double, goes_one_way};
+ghost use Rattle.std.specs.Prelude.{◌≡◌, ◌&&◌, ◌||◌};
+ghost use Rattle.orders.specs.Modes.{admits, needs_reference, values_fit, speed_fits, in_reach, uses_speed, uses_double, goes_one_way};
 
 use states::{Command, Mode, Order, REACH};
 

@@ -1,4 +1,3 @@
-ghost use Rattle.std.specs.Prelude.{◌≡◌};
 ghost use Rattle.rail.specs.Cuts.{Cut};
 
 use crate::mistake::{Field, Mistake};

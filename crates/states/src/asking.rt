@@ -1,4 +1,4 @@
-ghost use Rattle.std.specs.Prelude.{◌≡◌, ◌≤◌, ◌&&◌, cond, Some, None, ◌+ℤ◌, int_le, nat_le, unsigned_abs, IfSome, option_map};
+ghost use Rattle.std.specs.Prelude.{◌≡◌, ◌&&◌, cond, Some, None, ◌+ℤ◌, int_le, nat_le, IfSome, option_map};
 ghost use Rattle.motion.specs.Entry.{data_of};
 ghost use Rattle.motion.specs.Places.{pulses_by};
 ghost use Rattle.states.specs.View.{reading_of, raw_in};
@@ -9,10 +9,7 @@ use crate::fault::Cause;
 use crate::reading::Reading;
 use crate::record::Record;
 use crate::working::Working;
-use motion::MachineData;
-
-/// The greatest coordinate, distance and shift, in units, to either side of zero.
-pub const REACH: i32 = 40_000_000;
+use motion::{MachineData, REACH};
 
 // The ends have the names that machine data give them; a range of the library would not.
 /// The least and the greatest target of a move.

@@ -21,9 +21,10 @@ pub mod state;
 pub mod working;
 
 pub use aim::{Aim, Wish};
-pub use asking::{AxisView, REACH, Span};
+pub use asking::{AxisView, Span};
 pub use fault::{AxisFault, Cause, Layer};
 pub use mode::{Jog, Mode, Pace, UnknownMode};
+pub use motion::REACH;
 pub use observation::Observation;
 pub use order::{Command, Order};
 pub use reading::Reading;

@@ -5,7 +5,7 @@ ghost use Rattle.store.specs.Programs.{store_of};
 ghost use Rattle.states.specs.Shift.{offset_by};
 ghost use Rattle.states.specs.Courses.{course_rate};
 ghost use Rattle.states.specs.State.{with_work};
-ghost use Rattle.states.specs.View.{reading_of, raw_in, going_in, course_in, work_of, status_of};
+ghost use Rattle.states.specs.View.{reading_of, raw_in, course_in, work_of, status_of};
 ghost use Rattle.ticks.specs.Blocks.{with_words, block_target, target_verdict, block_verdict, showing, begun_with, begun_reply, take_step, take_reply};
 
 use crate::moving::after_block;
