@@ -2,7 +2,7 @@ ghost use Rattle.std.specs.Prelude.{◌≡◌};
 ghost use Rattle.store.specs.Programs.{store_of};
 ghost use Rattle.rail.specs.Programs.{asked_of, told_of};
 
-use crate::script::ProgramCall;
+use crate::script::{ProgramAsk, ProgramCall};
 use std::fmt;
 use store::fault::Place;
 use store::{Store, StoreFault};
@@ -13,11 +13,11 @@ impl ProgramCall<'_> {
         ensures value { result ≡ told_of self.entry (store_of store.old) }
         ensures after { store_of store.new ≡ asked_of self.entry (store_of store.old) }
     {
-        match self {
-            ProgramCall::Open { number, measure } => store.open_number(number, measure),
-            ProgramCall::Add { number, text } => store.add_line(number, text),
-            ProgramCall::Close { number } => store.close_number(number),
-            ProgramCall::Abandon { number } => store.abandon_number(number),
+        match self.ask {
+            ProgramAsk::Open { measure } => store.open_number(self.number, measure),
+            ProgramAsk::Add { text } => store.add_line(self.number, text),
+            ProgramAsk::Close => store.close_number(self.number),
+            ProgramAsk::Abandon => store.abandon_number(self.number),
         }
     }
 }

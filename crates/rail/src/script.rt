@@ -21,13 +21,20 @@ impl Line<'_> {
     }
 }
 
-/// What is asked of the program store; the entry goes by its number.
+/// A call on the program store: the number of the program or of its entry, and what is asked.
 #[derive(Clone, Copy)]
-pub enum ProgramCall<'a> {
-    Open { number: u8, measure: Measure },
-    Add { number: u8, text: &'a [u8] },
-    Close { number: u8 },
-    Abandon { number: u8 },
+pub struct ProgramCall<'a> {
+    pub number: u8,
+    pub ask: ProgramAsk<'a>,
+}
+
+/// What is asked of the program store.
+#[derive(Clone, Copy)]
+pub enum ProgramAsk<'a> {
+    Open { measure: Measure },
+    Add { text: &'a [u8] },
+    Close,
+    Abandon,
 }
 
 /// A call on an axis: any number, and what is asked of it.
@@ -59,20 +66,18 @@ pub fn read_line<'a>(line: &'a [u8]) -> Result<Option<Line<'a>>, Mistake> {
             let text = words.take_text();
             Line::Read { measure, text }
         }
-        Some(b"open") => Line::Program(read_open(&mut words)?),
+        Some(b"open") => {
+            let number = words.number(Field::Number)?;
+            let measure = read_measure(&mut words)?;
+            program_line(number, ProgramAsk::Open { measure })
+        }
         Some(b"add") => {
             let number = words.number(Field::Number)?;
             let text = words.take_text();
-            Line::Program(ProgramCall::Add { number, text })
+            program_line(number, ProgramAsk::Add { text })
         }
-        Some(b"close") => {
-            let number = words.number(Field::Number)?;
-            Line::Program(ProgramCall::Close { number })
-        }
-        Some(b"abandon") => {
-            let number = words.number(Field::Number)?;
-            Line::Program(ProgramCall::Abandon { number })
-        }
+        Some(b"close") => program_line(words.number(Field::Number)?, ProgramAsk::Close),
+        Some(b"abandon") => program_line(words.number(Field::Number)?, ProgramAsk::Abandon),
         _ => return Err(Mistake::UnknownCall),
     };
     words.end()?;
@@ -152,8 +157,6 @@ fn read_measure(words: &mut Words) -> Result<Measure, Mistake> {
     }
 }
 
-fn read_open<'a>(words: &mut Words) -> Result<ProgramCall<'a>, Mistake> {
-    let number = words.number(Field::Number)?;
-    let measure = read_measure(words)?;
-    Ok(ProgramCall::Open { number, measure })
+fn program_line<'a>(number: u8, ask: ProgramAsk<'a>) -> Line<'a> {
+    Line::Program(ProgramCall { number, ask })
 }
