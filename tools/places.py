@@ -6,9 +6,9 @@
     python3 tools/places.py loops    loops
     python3 tools/places.py by_hand  matches that answer true or false, functions that convert, impls of From, TryFrom and Display
     python3 tools/places.py facts    clauses that stand in three or more contracts of a crate
-    python3 tools/places.py groups   three parameters or more that three functions or more take together
+    python3 tools/places.py groups   three parameters that three functions or more take together
     python3 tools/places.py buffers  arrays, lengths and indices
-    python3 tools/places.py steps    enums and flags that choose what a function runs, functions that differ in one called name
+    python3 tools/places.py steps    enums and flags that may choose what a function runs, functions of one crate whose bodies have one shape
     python3 tools/places.py answers  answers and lemmas in proofs/
 """
 import re
