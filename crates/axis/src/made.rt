@@ -1,5 +1,4 @@
 ghost use Rattle.std.specs.Prelude.{◌≡◌};
-ghost use Rattle.states.specs.View.{reading_of};
 ghost use Rattle.axis.specs.View.{state_of};
 ghost use Rattle.laws.specs.Acts.{new_axis};
 
@@ -37,7 +36,7 @@ impl<D: Drive> Axis<D> {
 
     // What the drive answers now.
     pub(crate) fn reading(&self) -> Reading
-        ensures { reading_of result ≡ (state_of D.Drive.meaning self.now).drive }
+        ensures { result ≡ (state_of D.Drive.meaning self.now).drive }
     {
         Reading::of(&self.drive)
     }

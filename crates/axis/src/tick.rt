@@ -1,7 +1,7 @@
 ghost use Rattle.std.specs.Prelude.{◌≡◌};
 ghost use Rattle.drives.specs.Sending.{sent};
 ghost use Rattle.store.specs.Programs.{store_of};
-ghost use Rattle.states.specs.View.{reading_of, raw_in, going_in, travel_of};
+ghost use Rattle.states.specs.View.{raw_in, going_in, travel_of};
 ghost use Rattle.states.specs.Moves.{direction_of, ticked_in, braked_in};
 ghost use Rattle.ticks.specs.Ticks.{run_step, slow_step, tick_step, tick_reply};
 ghost use Rattle.ticks.specs.Moving.{trouble as trouble_for};
@@ -23,7 +23,7 @@ impl<D: Drive> Axis<D> {
     fn pulse(&mut self, journey: Journey, pulses: u64) -> Reading
         ensures sent { D.Drive.meaning self.new.drive ≡ sent (direction_of journey.distance) pulses (D.Drive.meaning self.old.drive) }
         ensures status { self.new.status ≡ self.old.status }
-        ensures reading { reading_of result ≡ D.Drive.meaning self.new.drive }
+        ensures reading { result ≡ D.Drive.meaning self.new.drive }
     {
         let _ = send(&mut self.drive, direction_of(journey), pulses);
         self.reading()

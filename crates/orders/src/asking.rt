@@ -3,7 +3,7 @@ ghost use Rattle.motion.specs.Entry.{data_of};
 ghost use Rattle.motion.specs.Places.{rate_by};
 ghost use Rattle.motion.specs.Travel.{Going};
 ghost use Rattle.store.specs.Programs.{store_of};
-ghost use Rattle.states.specs.View.{reading_of, status_of, work_of, phase_of};
+ghost use Rattle.states.specs.View.{status_of, work_of, phase_of};
 ghost use Rattle.orders.specs.Modes.{goes_forward};
 ghost use Rattle.orders.specs.Orders.{Answers};
 ghost use Rattle.orders.specs.Questions.{verdict, verdict_in, standing_verdict, mode_verdict, bare_verdict, go_verdict, jog_target, position_target, relative_target, start_verdict, resume_verdict, shift_verdict};
@@ -25,7 +25,7 @@ pub struct Request<'a> {
 impl Request<'_> {
     /// The questions to an order, in their order: the first no gives the cause, else what the order does.
     pub fn answer(&self) -> Result<Accepted, Cause>
-        ensures { Answers self.now.order (verdict self.now.order (store_of self.now.store.now) (reading_of self.now.reading) (status_of self.now.axis.now)) result }
+        ensures { Answers self.now.order (verdict self.now.order (store_of self.now.store.now) self.now.reading (status_of self.now.axis.now)) result }
     {
         let mode = Mode::try_from(self.order.mode)?;
         let plan = self.ask(mode)?;
@@ -34,7 +34,7 @@ impl Request<'_> {
 
     // 9, 10 and 11; a stop is asked no more after 10.
     fn ask(&self, mode: Mode) -> Result<Plan, Cause>
-        ensures { result ≡ verdict_in (Some mode) self.now.order (store_of self.now.store.now) (reading_of self.now.reading) (status_of self.now.axis.now) }
+        ensures { result ≡ verdict_in (Some mode) self.now.order (store_of self.now.store.now) self.now.reading (status_of self.now.axis.now) }
     {
         if !admits(mode, self.order.command) {
             return Err(Cause::NotAdmitted);
@@ -53,7 +53,7 @@ impl Request<'_> {
 
     // 7, 12 and 13, then the mode's own questions.
     fn ask_standing(&self, mode: Mode) -> Result<Plan, Cause>
-        ensures { result ≡ standing_verdict mode self.now.order (store_of self.now.store.now) (reading_of self.now.reading) (status_of self.now.axis.now) }
+        ensures { result ≡ standing_verdict mode self.now.order (store_of self.now.store.now) self.now.reading (status_of self.now.axis.now) }
     {
         let Some(view) = self.axis.view(self.reading) else {
             return ask_bare(mode);
@@ -94,7 +94,7 @@ struct StandingRequest<'a> {
 
 impl StandingRequest<'_> {
     fn ask(&self, mode: Mode) -> Result<Plan, Cause>
-        ensures { (g : Going) → result ≡ mode_verdict mode self.now.order (store_of self.now.store.now) (reading_of self.now.view.reading) (data_of self.now.view.machine.now) (work_of g self.now.view.work.now) }
+        ensures { (g : Going) → result ≡ mode_verdict mode self.now.order (store_of self.now.store.now) self.now.view.reading (data_of self.now.view.machine.now) (work_of g self.now.view.work.now) }
     {
         match mode {
             Mode::AxisOff => Ok(Plan::OnlyMode),
@@ -115,7 +115,7 @@ impl StandingRequest<'_> {
 
     // 18 to 21.
     fn go(&self, wish: Wish) -> Result<Plan, Cause>
-        ensures { result ≡ go_verdict (data_of self.now.view.machine.now) wish.rate wish.target (reading_of self.now.view.reading) self.now.view.work.now.zero self.now.view.work.now.referenced }
+        ensures { result ≡ go_verdict (data_of self.now.view.machine.now) wish.rate wish.target self.now.view.reading self.now.view.work.now.zero self.now.view.work.now.referenced }
     {
         Ok(Plan::Go(self.view.ask_move(wish)?))
     }
@@ -202,7 +202,7 @@ impl StandingRequest<'_> {
 
     // 16 and 17, and 21 where a target is unfinished.
     fn ask_resume(&self) -> Result<Plan, Cause>
-        ensures { (g : Going) → result ≡ resume_verdict (data_of self.now.view.machine.now) (store_of self.now.store.now) (reading_of self.now.view.reading) (phase_of g self.now.view.work.now.state) self.now.view.work.now.zero }
+        ensures { (g : Going) → result ≡ resume_verdict (data_of self.now.view.machine.now) (store_of self.now.store.now) self.now.view.reading (phase_of g self.now.view.work.now.state) self.now.view.work.now.zero }
     {
         let State::Held(hold) = self.view.work.state else {
             return Err(Cause::NothingHeld);

@@ -4,19 +4,20 @@ ghost use Rattle.motion.specs.Places.{pulses_by};
 ghost use Rattle.motion.specs.Travel.{Going};
 ghost use Rattle.states.specs.State.{with_work, stopped};
 ghost use Rattle.states.specs.Mode.{mode_number};
-ghost use Rattle.states.specs.View.{reading_of, raw_in, status_of, phase_of};
+ghost use Rattle.states.specs.View.{raw_in, status_of, phase_of};
 ghost use Rattle.orders.specs.Effects.{taken, taken_over, zeroed, gone_on, halted, carried, refused};
 
-use crate::plan::Plan;
+use crate::plan::{Accepted, Plan};
 use motion::MachineData;
 use states::{AxisFault, Cause, Hold, Mode, Reading, Record, Run, State};
 
 /// Carries out what an accepted order is to do.
 // Axis and reading stand apart here, since the axis is changed.
-pub fn carry_out(axis: &mut Record, reading: Reading, mode: Mode, plan: Plan)
-    ensures { status_of axis.new ≡ carried (mode_number mode) plan (reading_of reading) (status_of axis.old) }
+pub fn carry_out(axis: &mut Record, reading: Reading, accepted: Accepted)
+    ensures { status_of axis.new ≡ carried (mode_number accepted.mode) accepted.plan reading (status_of axis.old) }
 {
-    match plan {
+    let mode = accepted.mode;
+    match accepted.plan {
         Plan::Halt => halt(axis),
         Plan::OnlyMode => take(axis, mode),
         Plan::OnlyClear => axis.work.fault = None,
@@ -66,9 +67,8 @@ pub fn refuse(axis: &mut Record, fault: AxisFault)
 fn take(axis: &mut Record, mode: Mode)
     ensures { status_of axis.new ≡ with_work (taken (mode_number mode) (status_of axis.old).work) (status_of axis.old) }
 {
-    axis.work.mode = mode;
+    take_over(axis, mode);
     axis.work.auxiliary = 2;
-    axis.work.fault = None;
     axis.work.state = State::Standing;
 }
 
@@ -114,7 +114,7 @@ fn go_on(state: &mut State)
 
 // The count at zero that makes the reference coordinate the place where the drive is.
 fn zero_of(machine: &MachineData, reading: Reading) -> i64
-    ensures value { result ≡ ((reading_of reading).count -ℤ pulses_by (data_of machine.now) (data_of machine.now).reference) }
+    ensures value { result ≡ (reading.count -ℤ pulses_by (data_of machine.now) (data_of machine.now).reference) }
     ensures small { unsigned_abs result ≤ 100000000000000 }
 {
     let reference = machine.values().reference;
@@ -123,7 +123,7 @@ fn zero_of(machine: &MachineData, reading: Reading) -> i64
 }
 
 fn zero_here(axis: &mut Record, reading: Reading)
-    ensures { status_of axis.new ≡ with_work (zeroed (raw_in axis.old.machine) (reading_of reading) (status_of axis.old).work) (status_of axis.old) }
+    ensures { status_of axis.new ≡ with_work (zeroed (raw_in axis.old.machine) reading (status_of axis.old).work) (status_of axis.old) }
 {
     let Some(mover) = &axis.machine else {
         return;

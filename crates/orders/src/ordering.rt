@@ -1,7 +1,7 @@
 ghost use Rattle.std.specs.Prelude.{◌≡◌};
 ghost use Rattle.motion.specs.Travel.{Going};
 ghost use Rattle.store.specs.Programs.{store_of};
-ghost use Rattle.states.specs.View.{reading_of, status_of, phase_of};
+ghost use Rattle.states.specs.View.{status_of, phase_of};
 ghost use Rattle.orders.specs.Orders.{names_program, at_hold, order_fault, order_reply, order_step};
 
 use crate::asking::Request;
@@ -18,8 +18,8 @@ pub fn order(
     store: &Store,
     order: Order,
 ) -> Result<(), AxisFault>
-    ensures value { result ≡ order_reply order (store_of store.now) (reading_of reading) (status_of axis.old) }
-    ensures after { status_of axis.new ≡ order_step order (store_of store.now) (reading_of reading) (status_of axis.old) }
+    ensures value { result ≡ order_reply order (store_of store.now) reading (status_of axis.old) }
+    ensures after { status_of axis.new ≡ order_step order (store_of store.now) reading (status_of axis.old) }
 {
     let request = Request {
         axis,
@@ -29,7 +29,7 @@ pub fn order(
     };
     match request.answer() {
         Ok(accepted) => {
-            carry_out(axis, reading, accepted.mode, accepted.plan);
+            carry_out(axis, reading, accepted);
             Ok(())
         }
         Err(cause) => {
@@ -54,7 +54,7 @@ fn located(order: Order, state: &State, cause: Cause) -> AxisFault
     if is_at_hold(order, cause) {
         return fault_in(state.run(), cause);
     }
-    fault_in(None, cause)
+    cause.into()
 }
 
 // A start of mode 8 or 9 names a program by its byte.

@@ -1,6 +1,5 @@
 -- What the code's records say.
 use Rattle.std.specs.Prelude.{Some, None, Option}
-use Rattle.drives.specs.Meaning.{Meaning}
 use Rattle.motion.specs.declared.raw.RawData.{RawData}
 use Rattle.motion.specs.declared.mover.Mover.{Mover}
 use Rattle.motion.specs.Travel.{Going, idle}
@@ -11,12 +10,8 @@ use Rattle.states.specs.declared.state.State.{State}
 use Rattle.states.specs.declared.state.State.TheVariants.{Standing, Moving, Braking, Held, BetweenBlocks}
 use Rattle.states.specs.declared.working.Working.{Working}
 use Rattle.states.specs.declared.record.Record.{Record}
-use Rattle.states.specs.declared.reading.Reading.{Reading}
 use Rattle.states.specs.Mode.{mode_number}
 use Rattle.states.specs.State.{Course, Travel, Phase, standing, moving, braking, held, between, Work, Status}
-
-abbrev pub reading_of : Reading → Meaning
-reading_of r = record { count = r.count; least = r.least; greatest = r.greatest; ready = r.ready }
 
 -- machine data, and the move in progress beside them
 abbrev pub raw_in : Option Mover → Option RawData

@@ -1,7 +1,7 @@
 ghost use Rattle.std.specs.Prelude.{◌≡◌, ◌&&◌, cond, Some, None, ◌+ℤ◌, int_le, nat_le, IfSome, option_map};
 ghost use Rattle.motion.specs.Entry.{data_of};
 ghost use Rattle.motion.specs.Places.{pulses_by};
-ghost use Rattle.states.specs.View.{reading_of, raw_in};
+ghost use Rattle.states.specs.View.{raw_in};
 ghost use Rattle.states.specs.Moves.{lowest_of, highest_of, distance_to, aim_for, way_verdict, move_verdict};
 
 use crate::aim::{Aim, Wish};
@@ -24,12 +24,8 @@ impl Span {
     fn target_of(self, wish: Wish) -> Option<i32>
         ensures { result ≡ cond (int_le self.low wish.target && int_le wish.target self.high) (Some wish.target) None }
     {
-        // As `contains` of a range it gets no proof that the cast loses nothing.
-        if i64::from(self.low) <= wish.target && wish.target <= i64::from(self.high) {
-            Some(wish.target as i32)
-        } else {
-            None
-        }
+        let target = i32::try_from(wish.target).ok()?;
+        (self.low..=self.high).contains(&target).then_some(target)
     }
 }
 
@@ -60,7 +56,7 @@ impl Record {
 impl AxisView<'_> {
     /// 18 to 21: may the axis move so? The first no gives the cause.
     pub fn ask_move(&self, wish: Wish) -> Result<Aim, Cause>
-        ensures { result ≡ move_verdict (data_of self.now.machine.now) wish.rate wish.target (reading_of self.now.reading) self.now.work.now.zero self.now.work.now.referenced }
+        ensures { result ≡ move_verdict (data_of self.now.machine.now) wish.rate wish.target self.now.reading self.now.work.now.zero self.now.work.now.referenced }
     {
         if !self.rate_fits(wish) {
             return Err(Cause::RateOutside);
@@ -73,7 +69,7 @@ impl AxisView<'_> {
 
     // 20 and 21, of a target that is within the limits.
     fn ask_way(&self, target: i32, rate: u64) -> Result<Aim, Cause>
-        ensures { result ≡ way_verdict (data_of self.now.machine.now) rate target (reading_of self.now.reading) self.now.work.now.zero }
+        ensures { result ≡ way_verdict (data_of self.now.machine.now) rate target self.now.reading self.now.work.now.zero }
     {
         if !self.count_fits(target) {
             return Err(Cause::CountOutside);
@@ -108,7 +104,7 @@ impl AxisView<'_> {
 
     /// A move to a target, with its distance from where the drive is.
     pub fn aim(&self, target: i32, rate: u64) -> Aim
-        ensures { result ≡ aim_for (data_of self.now.machine.now) rate target (reading_of self.now.reading) self.now.work.now.zero }
+        ensures { result ≡ aim_for (data_of self.now.machine.now) rate target self.now.reading self.now.work.now.zero }
     {
         Aim {
             target,
@@ -118,7 +114,7 @@ impl AxisView<'_> {
     }
 
     fn distance(&self, target: i32) -> i64
-        ensures { result ≡ distance_to (data_of self.now.machine.now) target (reading_of self.now.reading) self.now.work.now.zero }
+        ensures { result ≡ distance_to (data_of self.now.machine.now) target self.now.reading self.now.work.now.zero }
     {
         self.machine.pulses_of(target) - self.work.from_zero(self.reading)
     }
@@ -133,7 +129,7 @@ impl AxisView<'_> {
 
     // That count lies between the drive's ends.
     fn count_fits(&self, target: i32) -> bool
-        ensures { result ≡ (int_le (reading_of self.now.reading).least (self.now.work.now.zero +ℤ pulses_by (data_of self.now.machine.now) target) && int_le (self.now.work.now.zero +ℤ pulses_by (data_of self.now.machine.now) target) (reading_of self.now.reading).greatest) }
+        ensures { result ≡ (int_le self.now.reading.least (self.now.work.now.zero +ℤ pulses_by (data_of self.now.machine.now) target) && int_le (self.now.work.now.zero +ℤ pulses_by (data_of self.now.machine.now) target) self.now.reading.greatest) }
     {
         self.reading.spans(self.count_at(target))
     }

@@ -1,7 +1,7 @@
 ghost use Rattle.std.specs.Prelude.{◌≡◌};
 ghost use Rattle.motion.specs.Travel.{Going};
 ghost use Rattle.states.specs.State.{stands};
-ghost use Rattle.states.specs.View.{reading_of, phase_of, status_of};
+ghost use Rattle.states.specs.View.{phase_of, status_of};
 ghost use Rattle.states.specs.Entry.{standing_reply, enter_step, enter_reply, delete_step, delete_reply, Checked};
 
 use crate::fault::{AxisFault, Cause};
@@ -31,7 +31,7 @@ impl Record {
     /// Enters machine data where the drive reads so: a zeroing.
     pub fn enter(&mut self, reading: Reading, raw: RawData) -> Result<(), AxisFault>
         ensures value { result ≡ enter_reply raw (status_of self.old) }
-        ensures after { status_of self.new ≡ enter_step raw (reading_of reading) (status_of self.old) }
+        ensures after { status_of self.new ≡ enter_step raw reading (status_of self.old) }
     {
         self.ask_standing()?;
         let machine = checked(raw)?;

@@ -8,7 +8,8 @@ use crate::record::Record;
 use crate::state::State;
 use units::Measure;
 
-// The bits of the feedback byte; bit 4 is always 0. The rules add them up, so that no type of flags is needed.
+// The bits of the feedback byte; bit 4 is always 0. A host is told the byte and nothing here reads a
+// bit of it: a type of flags would be made and at once given up for its number.
 const DEGREES: u8 = 0x01;
 
 const METRIC: u8 = 0x02;

@@ -5,7 +5,7 @@ ghost use Rattle.store.specs.Programs.{store_of};
 ghost use Rattle.states.specs.Shift.{offset_by};
 ghost use Rattle.states.specs.Courses.{course_rate};
 ghost use Rattle.states.specs.State.{with_work};
-ghost use Rattle.states.specs.View.{reading_of, raw_in, course_in, work_of, status_of};
+ghost use Rattle.states.specs.View.{raw_in, course_in, work_of, status_of};
 ghost use Rattle.ticks.specs.Blocks.{with_words, block_target, target_verdict, block_verdict, showing, begun_with, begun_reply, take_step, take_reply};
 
 use crate::moving::after_block;
@@ -16,8 +16,8 @@ use store::Store;
 
 /// Takes the next block of a program; one that has none left is over.
 pub fn take(axis: &mut Record, reading: Reading, store: &Store, run: Run) -> Result<(), AxisFault>
-    ensures value { result ≡ take_reply (store_of store.now) (course_in run) (reading_of reading) (status_of axis.old) }
-    ensures after { status_of axis.new ≡ take_step (store_of store.now) (course_in run) (reading_of reading) (status_of axis.old) }
+    ensures value { result ≡ take_reply (store_of store.now) (course_in run) reading (status_of axis.old) }
+    ensures after { status_of axis.new ≡ take_step (store_of store.now) (course_in run) reading (status_of axis.old) }
 {
     let Some(block) = store.block(run.program, usize::from(run.taken)) else {
         axis.work.state = State::Standing;
@@ -32,6 +32,9 @@ pub fn take(axis: &mut Record, reading: Reading, store: &Store, run: Run) -> Res
     let asked = ask_block(axis, reading, run, x);
     begin(axis, asked, run)
 }
+
+// Axis and program go together from here on: until the block is accepted the program is none of the
+// axis's, so no struct or field holds both.
 
 // The block's words take effect before its X is reckoned.
 fn with_words(block: &Block, run: Run) -> Run
@@ -78,7 +81,7 @@ fn begin(axis: &mut Record, asked: Result<Aim, Cause>, run: Run) -> Result<(), A
 
 // 18 to 21 of a block with X.
 fn ask_block(axis: &Record, reading: Reading, run: Run, x: i32) -> Result<Aim, Cause>
-    ensures { result ≡ block_verdict (raw_in axis.now.machine) (course_in run) x (reading_of reading) (status_of axis.now).work }
+    ensures { result ≡ block_verdict (raw_in axis.now.machine) (course_in run) x reading (status_of axis.now).work }
 {
     let Some(view) = axis.view(reading) else {
         return Err(Cause::NoMachineData);
@@ -97,7 +100,7 @@ struct BlockMove<'a> {
 
 impl BlockMove<'_> {
     fn ask(&self) -> Result<Aim, Cause>
-        ensures { (g : Going) → result ≡ target_verdict (data_of self.now.view.machine.now) (course_in self.now.run) self.now.x (reading_of self.now.view.reading) (work_of g self.now.view.work.now) }
+        ensures { (g : Going) → result ≡ target_verdict (data_of self.now.view.machine.now) (course_in self.now.run) self.now.x self.now.view.reading (work_of g self.now.view.work.now) }
     {
         self.view.ask_move(self.wish())
     }

@@ -4,7 +4,7 @@ ghost use Rattle.states.specs.Mode.{mode_number};
 ghost use Rattle.states.specs.Moves.{direction_of};
 ghost use Rattle.states.specs.Effects.{fault_in};
 ghost use Rattle.states.specs.State.{with_work, held as held_with, between};
-ghost use Rattle.states.specs.View.{reading_of, raw_in, going_in, course_in, course_if, travel_of, phase_of, status_of};
+ghost use Rattle.states.specs.View.{raw_in, going_in, course_in, course_if, travel_of, phase_of, status_of};
 ghost use Rattle.ticks.specs.Blocks.{done_with};
 ghost use Rattle.ticks.specs.Moving.{is_ahead, after_move, stopped_short, ran, slowed, fail_step};
 
@@ -34,6 +34,8 @@ pub fn is_ahead(journey: Journey, switches: Switches) -> bool
     0 < journey.distance && switches.end
 }
 
+// Whether the block had a move is a fact of the block, as its M is; nothing is chosen by it but in
+// single blocks, and a type or a closure for it would say no more.
 /// A block is done: what follows by its M and by the mode.
 pub fn after_block(mode: Mode, moved: bool, run: Run) -> State
     ensures { (g : Going) → phase_of g result ≡ done_with (mode_number mode) moved (course_in run) }
@@ -87,9 +89,12 @@ fn stopped_short(journey: Journey) -> State
 
 // Axis and reading go together here and in the taking of blocks: a struct of both would have to hold the axis that is changed.
 
+// Whether the move is complete, or the axis stands, is what its tick answered. Two functions of each
+// would leave to every caller what is decided here once.
+
 /// After the pulses of a tick of motion: where the axis is, and whether the move is complete.
 pub fn settle(axis: &mut Record, journey: Journey, reading: Reading, complete: bool)
-    ensures { status_of axis.new ≡ with_work (ran complete (going_in axis.old.machine) (travel_of (going_in axis.old.machine) journey) (reading_of reading).count (raw_in axis.old.machine) (status_of axis.old).work) (status_of axis.old) }
+    ensures { status_of axis.new ≡ with_work (ran complete (going_in axis.old.machine) (travel_of (going_in axis.old.machine) journey) reading.count (raw_in axis.old.machine) (status_of axis.old).work) (status_of axis.old) }
 {
     if complete {
         axis.work.coordinate = journey.target;
@@ -103,7 +108,7 @@ pub fn settle(axis: &mut Record, journey: Journey, reading: Reading, complete: b
 
 /// The same after a braking tick: where the axis is, and whether it stands.
 pub fn settle_braking(axis: &mut Record, journey: Journey, reading: Reading, stands: bool)
-    ensures { status_of axis.new ≡ with_work (slowed stands (going_in axis.old.machine) (travel_of (going_in axis.old.machine) journey) (reading_of reading).count (raw_in axis.old.machine) (status_of axis.old).work) (status_of axis.old) }
+    ensures { status_of axis.new ≡ with_work (slowed stands (going_in axis.old.machine) (travel_of (going_in axis.old.machine) journey) reading.count (raw_in axis.old.machine) (status_of axis.old).work) (status_of axis.old) }
 {
     axis.work.coordinate = axis.place(journey, reading);
     axis.work.state = if stands {
@@ -116,7 +121,7 @@ pub fn settle_braking(axis: &mut Record, journey: Journey, reading: Reading, sta
 /// 23 and 24: the axis stops at once, its reference is lost and its program is over.
 pub fn fail(axis: &mut Record, journey: Journey, reading: Reading, cause: Cause) -> AxisFault
     ensures value { result ≡ fault_in (course_if journey.run) cause }
-    ensures after { status_of axis.new ≡ fail_step cause (travel_of (going_in axis.old.machine) journey) (reading_of reading).count (status_of axis.old) }
+    ensures after { status_of axis.new ≡ fail_step cause (travel_of (going_in axis.old.machine) journey) reading.count (status_of axis.old) }
 {
     let fault = fault_in(journey.run, cause);
     axis.work.fault = Some(fault);

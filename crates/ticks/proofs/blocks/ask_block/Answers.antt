@@ -1,25 +1,25 @@
 use Rattle.std.proofs.Common.{◌≡◌, ℤ, Some, Option, subst, ap, ◌∙◌, w32}
 use Rattle.std.proofs.Math.Facts.{to_z-of_z}
 use Rattle.std.specs.Option.{IfSome, option_map}
+use Rattle.drives.specs.Meaning.{Meaning}
 use Rattle.motion.specs.declared.raw.RawData.{RawData}
 use Rattle.motion.specs.Entry.{data_of}
 use Rattle.motion.specs.Travel.{Going}
 use Rattle.states.specs.declared.asking.AxisView.{AxisView}
-use Rattle.states.specs.declared.reading.Reading.{Reading}
 use Rattle.states.specs.declared.working.Working.{Working}
 use Rattle.states.specs.State.{Course}
-use Rattle.states.specs.View.{reading_of, course_in, raw_in, going_in, work_of}
+use Rattle.states.specs.View.{course_in, raw_in, going_in, work_of}
 use Rattle.ticks.specs.Blocks.{target_verdict, block_verdict}
 use Rattle.ticks.proofs.blocks.ask_block.Goals as goal
 
 -- what is asked of a view is asked of the axis and the reading that it shows
-seen : (g : Going) (c : Course) (x : ℤ) (v : AxisView) (o : Option RawData) (w : Working) (r : Reading) → Some (data_of v.machine.now) ≡ o → v.work.now ≡ w → v.reading ≡ r
-    → target_verdict (data_of v.machine.now) c x (reading_of v.reading) (work_of g v.work.now) ≡ block_verdict o c x (reading_of r) (work_of g w)
+seen : (g : Going) (c : Course) (x : ℤ) (v : AxisView) (o : Option RawData) (w : Working) (r : Meaning) → Some (data_of v.machine.now) ≡ o → v.work.now ≡ w → v.reading ≡ r
+    → target_verdict (data_of v.machine.now) c x v.reading (work_of g v.work.now) ≡ block_verdict o c x r (work_of g w)
 seen g c x v o w r machine work reading =
     let d = data_of v.machine.now in
-    ap (λ (u : Working). target_verdict d c x (reading_of v.reading) (work_of g u)) work
-    ∙ ap (λ (q : Reading). target_verdict d c x (reading_of q) (work_of g w)) reading
-    ∙ ap (λ (p : Option RawData). block_verdict p c x (reading_of r) (work_of g w)) machine
+    ap (λ (u : Working). target_verdict d c x v.reading (work_of g u)) work
+    ∙ ap (λ (q : Meaning). target_verdict d c x q (work_of g w)) reading
+    ∙ ap (λ (p : Option RawData). block_verdict p c x r (work_of g w)) machine
 
 pub returns : goal.returns
 returns c =

@@ -1,6 +1,6 @@
 use Rattle.std.proofs.Common.{◌∙◌}
 use Rattle.motion.specs.Entry.{data_of}
-use Rattle.states.specs.View.{reading_of, course_in, work_of}
+use Rattle.states.specs.View.{course_in, work_of}
 use Rattle.states.specs.Courses.{course_rate}
 use Rattle.states.specs.Moves.{move_verdict}
 use Rattle.states.proofs.Wishes.{wished}
@@ -14,6 +14,6 @@ returns c g =
     let d = data_of v.machine.now in
     let w = v.work.now in
     let run = course_in b.run in
-    let m = reading_of v.reading in
+    let m = v.reading in
     c.ask_move.ensures
     ∙ wished (λ rate target. move_verdict d rate target m w.zero w.referenced) c.wish.result (course_rate d run) (block_target d run b.x (work_of g w)) (c.wish.ensures g)
