@@ -4,7 +4,6 @@ ghost use Rattle.states.specs.Entry.{enter_reply, delete_reply};
 ghost use Rattle.store.specs.Programs.{store_of};
 ghost use Rattle.orders.specs.Orders.{order_reply};
 ghost use Rattle.laws.specs.Acts.{enter_axis, delete_axis, order_axis, levels_step};
-ghost use Rattle.axis.specs.View.{state_of};
 
 use crate::{Axis, Levels};
 use drives::drive::Drive;
@@ -15,8 +14,8 @@ use store::Store;
 impl<D: Drive> Axis<D> {
     /// Machine data entry: 3, 4, 5. Entering is a zeroing.
     pub fn enter(&mut self, raw: RawData) -> Result<(), AxisFault>
-        ensures value { result ≡ enter_reply raw (state_of D.Drive.meaning self.old).status }
-        ensures after { state_of D.Drive.meaning self.new ≡ enter_axis raw (state_of D.Drive.meaning self.old) }
+        ensures value { result ≡ enter_reply raw self.old.status }
+        ensures after { self.new ≡ enter_axis raw self.old }
     {
         let reading = self.reading();
         self.status.enter(reading, raw)
@@ -24,16 +23,16 @@ impl<D: Drive> Axis<D> {
 
     /// Machine data deletion: 3, 7.
     pub fn delete(&mut self) -> Result<(), AxisFault>
-        ensures value { result ≡ delete_reply (state_of D.Drive.meaning self.old).status }
-        ensures after { state_of D.Drive.meaning self.new ≡ delete_axis (state_of D.Drive.meaning self.old) }
+        ensures value { result ≡ delete_reply self.old.status }
+        ensures after { self.new ≡ delete_axis self.old }
     {
         self.status.delete()
     }
 
     /// An order, with the programs in store. A refusal becomes the axis's fault.
     pub fn order(&mut self, store: &Store, order: Order) -> Result<(), AxisFault>
-        ensures value { result ≡ order_reply order (store_of store.now) (state_of D.Drive.meaning self.old).drive (state_of D.Drive.meaning self.old).status }
-        ensures after { state_of D.Drive.meaning self.new ≡ order_axis order (store_of store.now) (state_of D.Drive.meaning self.old) }
+        ensures value { result ≡ order_reply order (store_of store.now) self.old.drive self.old.status }
+        ensures after { self.new ≡ order_axis order (store_of store.now) self.old }
     {
         let reading = self.reading();
         orders::order(&mut self.status, reading, store, order)
@@ -41,7 +40,7 @@ impl<D: Drive> Axis<D> {
 
     /// The limit switches and the drive's readiness; nothing else changes.
     pub fn level(&mut self, levels: Levels)
-        ensures { state_of D.Drive.meaning self.new ≡ levels_step levels.switches.begin levels.switches.end levels.ready (state_of D.Drive.meaning self.old) }
+        ensures { self.new ≡ levels_step levels.switches.begin levels.switches.end levels.ready self.old }
     {
         self.status.switches = levels.switches;
         self.drive.level(levels.ready);
@@ -49,7 +48,7 @@ impl<D: Drive> Axis<D> {
 
     /// Mode, M number, coordinate, shift, actual value, rest, fault and feedback byte; nothing changes.
     pub fn observe(&self) -> Observation
-        ensures { shown_by result ≡ observed (state_of D.Drive.meaning self.now).status }
+        ensures { shown_by result ≡ observed self.now.status }
     {
         self.status.observe()
     }

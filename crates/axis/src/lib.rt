@@ -3,6 +3,7 @@
 
 use drives::drive::Drive;
 use states::{Record, Switches};
+use std::marker::Model;
 
 mod calls;
 mod made;
@@ -15,9 +16,18 @@ pub struct Levels {
     pub ready: bool,
 }
 
-/// One axis on its drive.
+/// One axis on its drive. Contracts see what the drive means and what the record says.
 #[derive(Drop)]
 pub struct Axis<D: Drive> {
     drive: D,
     status: Record,
+}
+
+impl<D: Drive> Model for Axis<D> {
+    ghost use Rattle.states.specs.State.{AxisState};
+    ghost use Rattle.states.specs.View.{status_of};
+
+    ghost Value = { AxisState };
+
+    ghost view = { λ a. record { drive = D.Drive.meaning a.drive; status = status_of a.status } };
 }
