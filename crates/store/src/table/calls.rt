@@ -1,5 +1,5 @@
 ghost use Rattle.std.specs.Prelude.{◌≡◌, ◌<◌, true, None, Ok, vec_len, cond, Err};
-ghost use Rattle.store.specs.Programs.{store_of};
+ghost use Rattle.store.specs.Held.{store_of};
 ghost use Rattle.store.specs.Entry.{first_no, open_questions, asked, open_done, open_reply, opened, open_one, add_reply, added, close_reply, closed, close_answer, abandon_reply, abandoned, abandon_answer, delete_reply, deleted};
 ghost use Rattle.store.specs.declared.fault.StoreFault.TheVariants.{NotOpen};
 

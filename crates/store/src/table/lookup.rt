@@ -1,7 +1,8 @@
 ghost use Rattle.std.specs.Prelude.{◌≡◌, ◌<◌};
-ghost use Rattle.std.specs.Option.{option_copied, option_map};
+ghost use Rattle.std.specs.Option.{option_copied};
 ghost use Rattle.reader.specs.declared.block.Block.{Block as Instruction};
-ghost use Rattle.store.specs.Programs.{program_of, store_of, found, Placed, measure_in, block_in};
+ghost use Rattle.store.specs.Held.{store_of};
+ghost use Rattle.store.specs.Programs.{found, Placed, measure_in, block_in};
 
 use crate::record::Record;
 use crate::table::Store;
@@ -26,7 +27,7 @@ impl Store {
 
     // The record of a stored program.
     pub(super) fn find(&self, number: u8) -> Option<&Record>
-        ensures { option_map program_of (option_copied result) ≡ found number (store_of self.now).stored }
+        ensures { option_copied result ≡ found number (store_of self.now).stored }
     {
         self.stored.iter().find(|record| record.number() == number)
     }

@@ -1,5 +1,6 @@
 ghost use Rattle.std.specs.Prelude.{◌≡◌, ◌≤◌, IfOk, vec_len, vec_capacity};
-ghost use Rattle.store.specs.Programs.{store_of, empty};
+ghost use Rattle.store.specs.Held.{store_of};
+ghost use Rattle.store.specs.Programs.{empty};
 ghost use Rattle.store.specs.Laws.{Runs, Changes};
 
 use crate::record::Record;

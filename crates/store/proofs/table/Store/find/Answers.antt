@@ -1,13 +1,12 @@
-use Rattle.std.proofs.Common.{◌≡◌, vec_items, option_copied, option_map, ap, ◌∙◌, rules}
+use Rattle.std.proofs.Common.{◌≡◌, vec_items, option_copied, ◌∙◌, rules}
 use Rattle.std.specs.List.{find}
 use Rattle.std.proofs.lemmas.Iterator.{YieldsList-from_slice}
 use Rattle.std.proofs.lemmas.Iterator.Search.{find_from_yields_List}
 use borrow.Author.Tests.{tests}
-use Rattle.store.specs.Programs.{program_of}
-use Rattle.store.proofs.Tables.{named, found_map}
+use Rattle.store.proofs.Tables.{named, found_first}
 use Rattle.store.proofs.table.Store.find.Goals as goal
 
 pub returns : goal.returns
 returns c =
     let e : option_copied c.find.result ≡ find (named c.args.number) (vec_items c.args.self.now.stored) = find_from_yields_List (named c.args.number) _ _ c.find.result c.find.ensures.ran (YieldsList-from_slice (vec_items c.args.self.now.stored) cc) (λ x b q k. search (rules, tests)) in
-    ap (option_map program_of) e ∙ found_map c.args.number (vec_items c.args.self.now.stored)
+    e ∙ found_first c.args.number (vec_items c.args.self.now.stored)
