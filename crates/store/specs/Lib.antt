@@ -1,6 +1,5 @@
 pub mod Faults
 pub mod Closing
 pub mod Programs
-pub mod Held
 pub mod Entry
 pub mod Laws

@@ -1,4 +1,4 @@
-use Rattle.std.proofs.Common.{◌≡◌, vec_items, option_copied, ◌∙◌, rules}
+use Rattle.std.proofs.Common.{◌≡◌, option_copied, ◌∙◌, rules}
 use Rattle.std.specs.List.{find}
 use Rattle.std.proofs.lemmas.Iterator.{YieldsList-from_slice}
 use Rattle.std.proofs.lemmas.Iterator.Search.{find_from_yields_List}
@@ -8,5 +8,5 @@ use Rattle.store.proofs.table.Store.find.Goals as goal
 
 pub returns : goal.returns
 returns c =
-    let e : option_copied c.find.result ≡ find (named c.args.number) (vec_items c.args.self.now.stored) = find_from_yields_List (named c.args.number) _ _ c.find.result c.find.ensures.ran (YieldsList-from_slice (vec_items c.args.self.now.stored) cc) (λ x b q k. search (rules, tests)) in
-    e ∙ found_first c.args.number (vec_items c.args.self.now.stored)
+    let e : option_copied c.find.result ≡ find (named c.args.number) c.self.inside.stored.items = find_from_yields_List (named c.args.number) _ _ c.find.result c.find.ensures.ran (YieldsList-from_slice c.self.inside.stored.items cc) (λ x b q k. search (rules, tests)) in
+    rw (← c.self.view_is) (e ∙ found_first c.args.number c.self.inside.stored.items)
