@@ -1,13 +1,9 @@
--- The place of a program in a list, and the answer to a closing.
-use Rattle.std.proofs.Common.{◌≡◌, ℕ, ◌+◌, ◌<◌, ◌≤◌, Bool, false, cond, eqb, List, [], ◌∷◌, length, remove, Some, None, Ok, Err, Option, Result, refl, ap, arith}
+-- The place of a program in a list.
+use Rattle.std.proofs.Common.{◌≡◌, ℕ, ◌+◌, ◌<◌, ◌≤◌, Bool, eqb, List, [], ◌∷◌, length, remove, Some, None, refl, ap, arith}
 use Rattle.std.specs.List.{find, position, position_or_len, slice_get}
 use Rattle.std.proofs.Math.Numerals.{one-add}
 use Rattle.std.proofs.lemmas.Bool.Decides.{nat_tests}
-use Rattle.store.specs.declared.fault.StoreFault.{StoreFault}
-use Rattle.store.specs.declared.fault.StoreFault.TheVariants.{NotOpen, NotClosable}
 use Rattle.store.specs.Programs.{Program, found, Placed}
-use Rattle.store.specs.Closing.{closable}
-use Rattle.store.specs.Entry.{open_one, close_reply_of}
 
 abbrev pub named : ℕ → Program → Bool
 named n p = eqb p.number n
@@ -32,11 +28,3 @@ there n (p ∷ ps) h =
 
 pub placed : (n : ℕ) (ps : List Program) → Placed n ps (position (named n) ps)
 placed n ps = grind (arith, nat_tests, absent, there)
-
--- 30 is answered only where the entry is not the open one
-not_open_at : (b x : Bool) (n k : ℕ) → ◌≡◌ {A = Result (Unit {0}) StoreFault} (cond b (cond x (Ok tt) (Err (NotClosable n))) (Err (NotOpen n))) (Err (NotOpen k)) → b ≡ false
-not_open_at b x n k e = grind arith
-
-pub not_open : (n k : ℕ) (o : Option Program) → close_reply_of o n ≡ Err (NotOpen k) → open_one n o ≡ false
-not_open n k None e = refl
-not_open n k (Some p) e = not_open_at (eqb p.number n) (closable p.blocks) n k e
