@@ -3,8 +3,8 @@ ghost use Rattle.reader.specs.declared.block.Block.{Block as Instruction};
 ghost use Rattle.store.specs.Programs.{begun, read, joined_to, line_reply, block_at};
 
 use crate::fault::StoreFault;
-use crate::record::{MOST_BLOCKS, Record};
-use reader::{Block, read_line};
+use crate::record::Record;
+use reader::{Block, MOST_BLOCKS, read_line};
 use std::alloc::{AllocError, Global};
 use units::Measure;
 

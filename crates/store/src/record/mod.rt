@@ -5,9 +5,6 @@ use units::Measure;
 mod closing;
 mod fill;
 
-// The reader has the same bound of its own.
-const MOST_BLOCKS: usize = 64;
-
 /// One program, with room for all its blocks from the beginning.
 /// Of a free record the fields mean nothing.
 #[derive(Drop)]
@@ -19,7 +16,7 @@ pub(crate) struct Record {
 
 impl Model for Record {
     ghost use Rattle.std.specs.Prelude.{◌≤◌, vec_len, vec_capacity};
-    ghost use Rattle.store.specs.declared.record.TheConstants.{MOST_BLOCKS};
+    ghost use Rattle.reader.specs.declared.TheConstants.{MOST_BLOCKS};
     ghost use Rattle.store.specs.Programs.{Program};
 
     ghost Value = { Program };

@@ -25,5 +25,8 @@ impl Model for Store {
 
     ghost view = { λ s. record { stored = s.stored.items; entry = s.entry } };
 
-    ghost invariant = { λ s. (vec_len s.stored + (if is_some s.entry then 1 else 0) + vec_len s.free ≡ MOST_PROGRAMS) × (MOST_PROGRAMS ≤ vec_capacity s.stored) × (MOST_PROGRAMS ≤ vec_capacity s.free) };
+    ghost invariant = { λ s.
+        (vec_len s.stored + (if is_some s.entry then 1 else 0) + vec_len s.free ≡ MOST_PROGRAMS)
+        × (MOST_PROGRAMS ≤ vec_capacity s.stored)
+        × (MOST_PROGRAMS ≤ vec_capacity s.free) };
 }
