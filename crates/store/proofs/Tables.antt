@@ -1,6 +1,6 @@
 -- The place of a program in a list.
-use Rattle.std.proofs.Common.{◌≡◌, ℕ, ◌+◌, ◌<◌, ◌≤◌, Bool, eqb, List, [], ◌∷◌, length, remove, Some, None, refl, ap, arith}
-use Rattle.std.specs.List.{find, position, position_or_len, slice_get}
+use Rattle.std.proofs.Common.{◌≡◌, ℕ, ◌<◌, ◌≤◌, Bool, eqb, List, [], ◌∷◌, length, Some, None, refl, arith}
+use Rattle.std.specs.List.{find, position, position_or_len}
 use Rattle.std.proofs.Math.Numerals.{one-add}
 use Rattle.std.proofs.lemmas.Bool.Decides.{nat_tests}
 use Rattle.store.specs.Programs.{Program, found, Placed}
@@ -22,9 +22,7 @@ there n [] h = absurd (omega arith)
 there n (p ∷ ps) h =
     let k : ℕ = position_or_len (named n) ps in
     let more : k < length ps → Placed n ps (Some k) = there n ps in
-    let later : remove (p ∷ ps) (1 + k) ≡ p ∷ remove ps k = ap (remove (p ∷ ps)) (one-add k) in
-    let here : slice_get (p ∷ ps) (1 + k) ≡ slice_get ps k = ap (slice_get (p ∷ ps)) (one-add k) in
-    grind arith
+    grind (arith, one-add k)
 
 pub placed : (n : ℕ) (ps : List Program) → Placed n ps (position (named n) ps)
 placed n ps = grind (arith, nat_tests, absent, there)

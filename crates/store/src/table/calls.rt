@@ -120,9 +120,7 @@ impl Store {
 
     // The questions of an opening, in their order.
     fn ask_opening(&self, number: u8) -> Result<(), StoreFault>
-        ensures value { result ≡ asked (first_no (open_questions number self.now)) }
-        ensures room { result ≡ Ok tt → length self.now.stored < MOST_PROGRAMS }
-        ensures no_entry { result ≡ Ok tt → self.now.entry ≡ None }
+        ensures { result ≡ asked (first_no (open_questions number self.now)) }
     {
         if number == 0 {
             return Err(StoreFault::OutOfRange(number));
@@ -141,8 +139,7 @@ impl Store {
 
     // The question of 30: whether the entry that a number names is the open one.
     fn ask_entry(&self, number: u8) -> Result<(), StoreFault>
-        ensures value { result ≡ cond (open_one number self.now.entry) (Ok tt) (Err (NotOpen number)) }
-        ensures open { result ≡ Ok tt → open_one number self.now.entry ≡ true }
+        ensures { result ≡ cond (open_one number self.now.entry) (Ok tt) (Err (NotOpen number)) }
     {
         match &self.entry {
             Some(record) if record.number() == number => Ok(()),
