@@ -1,17 +1,12 @@
 -- The place of a program in a list.
-use Rattle.std.proofs.Common.{◌≡◌, ℕ, ◌<◌, ◌≤◌, Bool, eqb, List, [], ◌∷◌, length, Some, None, refl, arith}
-use Rattle.std.specs.List.{find, position, position_or_len}
+use Rattle.std.proofs.Common.{ℕ, ◌<◌, ◌≤◌, Bool, eqb, List, [], ◌∷◌, length, Some, None, refl, arith}
+use Rattle.std.specs.List.{position, position_or_len}
 use Rattle.std.proofs.Math.Numerals.{one-add}
 use Rattle.std.proofs.lemmas.Bool.Decides.{nat_tests}
-use Rattle.store.specs.Programs.{Program, found, Placed}
+use Rattle.store.specs.Programs.{Program, Placed}
 
 abbrev pub named : ℕ → Program → Bool
 named n p = eqb p.number n
-
--- the first program of a number
-pub found_first : (n : ℕ) (ps : List Program) → find (named n) ps ≡ found n ps
-found_first n [] = refl
-found_first n (p ∷ ps) = let more = found_first n ps in grind arith
 
 absent : (n : ℕ) (ps : List Program) → length ps ≤ position_or_len (named n) ps → Placed n ps None
 absent n [] h = (refl, refl)

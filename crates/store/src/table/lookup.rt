@@ -28,7 +28,7 @@ impl Store {
     pub(super) fn find(&self, number: u8) -> Option<&Record>
         ensures { option_copied result ≡ found number self.now.stored }
     {
-        self.stored.iter().find(|record| record.number() == number)
+        self.stored.get(self.position(number)?)
     }
 
     // Where the record of a stored program stands.
