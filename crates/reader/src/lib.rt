@@ -21,8 +21,8 @@ use rest::{MOST_BYTES, Rest};
 use units::Measure;
 use values::block_of;
 
-// The most blocks of a program.
-const MOST_BLOCKS: usize = 64;
+/// The most blocks of a program.
+pub const MOST_BLOCKS: usize = 64;
 
 /// What a line of bytes says, for a program that has `blocks` blocks already:
 /// a block, nothing where the line is passed over, or the first question that it fails.

@@ -1,6 +1,5 @@
 -- A small store: the stored programs, in the order of their closing, and the open entry.
-use Rattle.std.specs.Prelude.{◌≡◌, ℕ, ◌<◌, cond, List, [], ◌∷◌, ◌++◌, map, length, Some, None, Ok, Err, vec_items, remove, Option, Result, ◌==◌, nat_lt, slice_index_or, slice_get}
-use Rattle.std.specs.Option.{option_map}
+use Rattle.std.specs.Prelude.{◌≡◌, ℕ, ◌<◌, cond, List, [], ◌∷◌, ◌++◌, length, Some, None, Ok, Err, remove, Option, Result, ◌==◌, nat_lt, slice_index_or, slice_get}
 use Rattle.units.specs.declared.Measure.{Measure}
 use Rattle.reader.specs.declared.block.Block.{Block}
 use Rattle.reader.specs.declared.fault.LineFault.{LineFault}
@@ -8,8 +7,6 @@ use Rattle.reader.specs.Questions.{verdict}
 use Rattle.reader.specs.Questions as reading
 use Rattle.store.specs.declared.fault.StoreFault.{StoreFault}
 use Rattle.store.specs.declared.fault.StoreFault.TheVariants.{Line}
-use Rattle.store.specs.declared.record.Record.{Record}
-use Rattle.store.specs.declared.table.Store.{Store}
 
 pub record Program : Type 0 where
   pub number : ℕ
@@ -27,13 +24,6 @@ empty = record { stored = []; entry = None }
 abbrev pub begun : ℕ → Measure → Program
 begun n m = record { number = n; measure = m; blocks = [] }
 
--- what the code holds
-abbrev pub program_of : Record → Program
-program_of r = record { number = r.number; measure = r.measure; blocks = vec_items r.blocks }
-
-abbrev pub store_of : Store → Programs
-store_of s = record { stored = map program_of (vec_items s.stored); entry = option_map program_of s.entry }
-
 -- the program of a number, and the programs without it
 abbrev pub found : ℕ → List Program → Option Program
 found n [] = None
@@ -43,10 +33,10 @@ abbrev pub without : ℕ → List Program → List Program
 without n [] = []
 without n (p ∷ ps) = cond (p.number == n) ps (p ∷ without n ps)
 
--- where the record of a number stands, the program that it holds, and what its removal leaves
-abbrev pub Placed : ℕ → List Record → Option ℕ → Type 0
-Placed n rs None = (found n (map program_of rs) ≡ None) × (without n (map program_of rs) ≡ map program_of rs)
-Placed n rs (Some i) = (i < length rs) × (found n (map program_of rs) ≡ option_map program_of (slice_get rs i)) × (without n (map program_of rs) ≡ map program_of (remove rs i))
+-- where the program of a number stands, and what its removal leaves
+abbrev pub Placed : ℕ → List Program → Option ℕ → Type 0
+Placed n ps None = (found n ps ≡ None) × (without n ps ≡ ps)
+Placed n ps (Some i) = (i < length ps) × (found n ps ≡ slice_get ps i) × (without n ps ≡ remove ps i)
 
 abbrev pub block_at : List Block → ℕ → Option Block
 block_at bs k = cond (nat_lt k (length bs)) (Some (slice_index_or bs k reading.empty)) None

@@ -1,14 +1,13 @@
 ghost use Rattle.std.specs.Prelude.{◌≡◌, None, unwrap_or};
 ghost use Rattle.std.specs.Option.{option_or};
 ghost use Rattle.store.specs.Closing.{fits_at, closable};
-ghost use Rattle.store.specs.Programs.{program_of};
 
 use crate::record::Record;
 use reader::{Block, Motion, ends_program};
 
 impl Record {
     pub(crate) fn closable(&self) -> bool
-        ensures { result ≡ closable (program_of self.now).blocks }
+        ensures { result ≡ closable self.now.blocks }
     {
         may_close(self.blocks.as_slice())
     }

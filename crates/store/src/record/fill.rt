@@ -1,10 +1,10 @@
 ghost use Rattle.std.specs.Prelude.{◌≡◌, ◌<◌, Some};
 ghost use Rattle.reader.specs.declared.block.Block.{Block as Instruction};
-ghost use Rattle.store.specs.Programs.{program_of, begun, read, joined_to, line_reply, block_at};
+ghost use Rattle.store.specs.Programs.{begun, read, joined_to, line_reply, block_at};
 
 use crate::fault::StoreFault;
-use crate::record::{MOST_BLOCKS, Record};
-use reader::{Block, read_line};
+use crate::record::Record;
+use reader::{Block, MOST_BLOCKS, read_line};
 use std::alloc::{AllocError, Global};
 use units::Measure;
 
@@ -19,7 +19,7 @@ impl Record {
     }
 
     pub(crate) fn begin(&mut self, number: u8, measure: Measure)
-        ensures { program_of self.new ≡ begun number measure }
+        ensures { self.new ≡ begun number measure }
     {
         self.number = number;
         self.measure = measure;
@@ -29,8 +29,8 @@ impl Record {
     // A line that is passed over adds nothing; nor does a refused one.
     #[tactic(auto, unfolding(crate::specs::Programs::read))]
     pub(crate) fn add(&mut self, line: &[u8]) -> Result<(), StoreFault>
-        ensures value { result ≡ line_reply (read (program_of self.old) line.now) }
-        ensures after { program_of self.new ≡ joined_to (read (program_of self.old) line.now) (program_of self.old) }
+        ensures value { result ≡ line_reply (read self.old line.now) }
+        ensures after { self.new ≡ joined_to (read self.old line.now) self.old }
     {
         if let Some(block) = read_line(line, self.measure, self.blocks.len())? {
             self.blocks.push_reserved(block);
@@ -39,20 +39,20 @@ impl Record {
     }
 
     pub(crate) fn number(&self) -> u8
-        ensures { result ≡ (program_of self.now).number }
+        ensures { result ≡ self.now.number }
     {
         self.number
     }
 
     pub(crate) fn measure(&self) -> Measure
-        ensures { result ≡ (program_of self.now).measure }
+        ensures { result ≡ self.now.measure }
     {
         self.measure
     }
 
     // The block at an index from 0.
     pub(crate) fn block(&self, k: usize) -> Option<Block>
-        ensures value { result ≡ block_at (program_of self.now).blocks k }
+        ensures value { result ≡ block_at self.now.blocks k }
         ensures within { (b : Instruction) → result ≡ Some b → k < MOST_BLOCKS }
     {
         self.blocks.get(k).copied()

@@ -1,14 +1,9 @@
-ghost use Rattle.std.specs.Prelude.{◌≤◌, vec_len, vec_capacity};
-ghost use Rattle.store.specs.declared.record.TheConstants.{MOST_BLOCKS};
-
 use reader::Block;
+use std::marker::Model;
 use units::Measure;
 
 mod closing;
 mod fill;
-
-// The reader has the same bound of its own.
-const MOST_BLOCKS: usize = 64;
 
 /// One program, with room for all its blocks from the beginning.
 /// Of a free record the fields mean nothing.
@@ -17,6 +12,16 @@ pub(crate) struct Record {
     number: u8,
     measure: Measure,
     blocks: Vec<Block>,
-    ghost few: { vec_len blocks ≤ MOST_BLOCKS },
-    ghost room: { MOST_BLOCKS ≤ vec_capacity blocks },
+}
+
+impl Model for Record {
+    ghost use Rattle.std.specs.Prelude.{◌≤◌, vec_len, vec_capacity};
+    ghost use Rattle.reader.specs.declared.TheConstants.{MOST_BLOCKS};
+    ghost use Rattle.store.specs.Programs.{Program};
+
+    ghost Value = { Program };
+
+    ghost view = { λ r. record { number = r.number; measure = r.measure; blocks = r.blocks.items } };
+
+    ghost invariant = { λ r. (vec_len r.blocks ≤ MOST_BLOCKS) × (MOST_BLOCKS ≤ vec_capacity r.blocks) };
 }

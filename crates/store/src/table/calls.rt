@@ -1,5 +1,4 @@
-ghost use Rattle.std.specs.Prelude.{◌≡◌, ◌<◌, true, None, Ok, vec_len, cond, Err};
-ghost use Rattle.store.specs.Programs.{store_of};
+ghost use Rattle.std.specs.Prelude.{◌≡◌, ◌<◌, true, None, Ok, length, cond, Err};
 ghost use Rattle.store.specs.Entry.{first_no, open_questions, asked, open_done, open_reply, opened, open_one, add_reply, added, close_reply, closed, close_answer, abandon_reply, abandoned, abandon_answer, delete_reply, deleted};
 ghost use Rattle.store.specs.declared.fault.StoreFault.TheVariants.{NotOpen};
 
@@ -10,11 +9,12 @@ use units::Measure;
 
 // Each call on an entry has two forms, by token and by number: a token is spent
 // or handed back, a number is neither. The rules are in the calls by number.
+// Number and measure are what an opening says; no other call takes both.
 impl Store {
     /// Opens the entry of a program and gives its token.
     pub fn open(&mut self, number: u8, measure: Measure) -> Result<Entry, StoreFault>
-        ensures value { result ≡ open_reply number (store_of self.old) }
-        ensures after { store_of self.new ≡ opened number measure (store_of self.old) }
+        ensures value { result ≡ open_reply number self.old }
+        ensures after { self.new ≡ opened number measure self.old }
     {
         self.open_number(number, measure)?;
         Ok(Entry { number })
@@ -22,8 +22,8 @@ impl Store {
 
     /// Adds a line to the open entry.
     pub fn add(&mut self, entry: &Entry, line: &[u8]) -> Result<(), StoreFault>
-        ensures value { result ≡ add_reply entry.now.number line.now (store_of self.old) }
-        ensures after { store_of self.new ≡ added entry.now.number line.now (store_of self.old) }
+        ensures value { result ≡ add_reply entry.now.number line.now self.old }
+        ensures after { self.new ≡ added entry.now.number line.now self.old }
     {
         self.add_line(entry.number, line)
     }
@@ -31,8 +31,8 @@ impl Store {
     /// Closes the open entry: its program is stored, or with 35 the entry ends
     /// with its lines.
     pub fn close(&mut self, entry: Entry) -> Result<(), CloseRefusal>
-        ensures value { result ≡ close_answer entry (store_of self.old) }
-        ensures after { store_of self.new ≡ closed entry.number (store_of self.old) }
+        ensures value { result ≡ close_answer entry self.old }
+        ensures after { self.new ≡ closed entry.number self.old }
     {
         match self.close_number(entry.number) {
             Err(StoreFault::NotOpen(_)) => Err(entry.handed_back().into()),
@@ -45,8 +45,8 @@ impl Store {
 
     /// Ends the open entry; its lines are gone.
     pub fn abandon(&mut self, entry: Entry) -> Result<(), HandedBack>
-        ensures value { result ≡ abandon_answer entry (store_of self.old) }
-        ensures after { store_of self.new ≡ abandoned entry.number (store_of self.old) }
+        ensures value { result ≡ abandon_answer entry self.old }
+        ensures after { self.new ≡ abandoned entry.number self.old }
     {
         if self.abandon_number(entry.number).is_err() {
             return Err(entry.handed_back());
@@ -58,8 +58,8 @@ impl Store {
     /// Opens the entry of a program and gives no token: for a program that names
     /// entries by number, as one that replays calls.
     pub fn open_number(&mut self, number: u8, measure: Measure) -> Result<(), StoreFault>
-        ensures value { result ≡ open_done number (store_of self.old) }
-        ensures after { store_of self.new ≡ opened number measure (store_of self.old) }
+        ensures value { result ≡ open_done number self.old }
+        ensures after { self.new ≡ opened number measure self.old }
     {
         self.ask_opening(number)?;
         let mut record = self.free.pop().unwrap();
@@ -71,8 +71,8 @@ impl Store {
     /// Adds a line to the entry that a number names: for a program that holds no
     /// tokens, as one that replays calls.
     pub fn add_line(&mut self, number: u8, line: &[u8]) -> Result<(), StoreFault>
-        ensures value { result ≡ add_reply number line.now (store_of self.old) }
-        ensures after { store_of self.new ≡ added number line.now (store_of self.old) }
+        ensures value { result ≡ add_reply number line.now self.old }
+        ensures after { self.new ≡ added number line.now self.old }
     {
         self.ask_entry(number)?;
         self.entry.as_mut().unwrap().add(line)
@@ -80,8 +80,8 @@ impl Store {
 
     /// Closes the entry that a number names.
     pub fn close_number(&mut self, number: u8) -> Result<(), StoreFault>
-        ensures value { result ≡ close_reply number (store_of self.old) }
-        ensures after { store_of self.new ≡ closed number (store_of self.old) }
+        ensures value { result ≡ close_reply number self.old }
+        ensures after { self.new ≡ closed number self.old }
     {
         self.ask_entry(number)?;
         let record = self.entry.take().unwrap();
@@ -95,8 +95,8 @@ impl Store {
 
     /// Abandons the entry that a number names.
     pub fn abandon_number(&mut self, number: u8) -> Result<(), StoreFault>
-        ensures value { result ≡ abandon_reply number (store_of self.old) }
-        ensures after { store_of self.new ≡ abandoned number (store_of self.old) }
+        ensures value { result ≡ abandon_reply number self.old }
+        ensures after { self.new ≡ abandoned number self.old }
     {
         self.ask_entry(number)?;
         let record = self.entry.take().unwrap();
@@ -107,8 +107,8 @@ impl Store {
     /// Deletes a stored program. Whether an axis uses it is the caller's
     /// question.
     pub fn delete(&mut self, number: u8) -> Result<(), StoreFault>
-        ensures value { result ≡ delete_reply number (store_of self.old) }
-        ensures after { store_of self.new ≡ deleted number (store_of self.old) }
+        ensures value { result ≡ delete_reply number self.old }
+        ensures after { self.new ≡ deleted number self.old }
     {
         let Some(i) = self.position(number) else {
             return Err(StoreFault::NotStored(number));
@@ -120,9 +120,7 @@ impl Store {
 
     // The questions of an opening, in their order.
     fn ask_opening(&self, number: u8) -> Result<(), StoreFault>
-        ensures value { result ≡ asked (first_no (open_questions number (store_of self.now))) }
-        ensures room { result ≡ Ok tt → vec_len self.now.stored < MOST_PROGRAMS }
-        ensures no_entry { result ≡ Ok tt → self.now.entry ≡ None }
+        ensures { result ≡ asked (first_no (open_questions number self.now)) }
     {
         if number == 0 {
             return Err(StoreFault::OutOfRange(number));
@@ -141,8 +139,7 @@ impl Store {
 
     // The question of 30: whether the entry that a number names is the open one.
     fn ask_entry(&self, number: u8) -> Result<(), StoreFault>
-        ensures value { result ≡ cond (open_one number (store_of self.now).entry) (Ok tt) (Err (NotOpen number)) }
-        ensures open { result ≡ Ok tt → open_one number (store_of self.now).entry ≡ true }
+        ensures { result ≡ cond (open_one number self.now.entry) (Ok tt) (Err (NotOpen number)) }
     {
         match &self.entry {
             Some(record) if record.number() == number => Ok(()),

@@ -1,7 +1,7 @@
 ghost use Rattle.std.specs.Prelude.{◌≡◌, ◌<◌};
-ghost use Rattle.std.specs.Option.{option_copied, option_map};
+ghost use Rattle.std.specs.Option.{option_copied};
 ghost use Rattle.reader.specs.declared.block.Block.{Block as Instruction};
-ghost use Rattle.store.specs.Programs.{program_of, store_of, found, Placed, measure_in, block_in};
+ghost use Rattle.store.specs.Programs.{found, Placed, measure_in, block_in};
 
 use crate::record::Record;
 use crate::table::Store;
@@ -11,14 +11,14 @@ use units::Measure;
 impl Store {
     /// The measure of a stored program.
     pub fn measure_of(&self, number: u8) -> Option<Measure>
-        ensures { result ≡ measure_in (found number (store_of self.now).stored) }
+        ensures { result ≡ measure_in (found number self.now.stored) }
     {
         Some(self.find(number)?.measure())
     }
 
     /// The block of a stored program at an index from 0.
     pub fn block(&self, number: u8, k: usize) -> Option<Block>
-        ensures value { result ≡ block_in (found number (store_of self.now).stored) k }
+        ensures value { result ≡ block_in (found number self.now.stored) k }
         ensures within { (b : Instruction) → result ≡ Some b → k < 64 }
     {
         self.find(number)?.block(k)
@@ -26,14 +26,14 @@ impl Store {
 
     // The record of a stored program.
     pub(super) fn find(&self, number: u8) -> Option<&Record>
-        ensures { option_map program_of (option_copied result) ≡ found number (store_of self.now).stored }
+        ensures { option_copied result ≡ found number self.now.stored }
     {
-        self.stored.iter().find(|record| record.number() == number)
+        self.stored.get(self.position(number)?)
     }
 
     // Where the record of a stored program stands.
     pub(super) fn position(&self, number: u8) -> Option<usize>
-        ensures { Placed number self.now.stored.items result }
+        ensures { Placed number self.now.stored result }
     {
         self.stored
             .iter()

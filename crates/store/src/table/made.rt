@@ -1,5 +1,5 @@
 ghost use Rattle.std.specs.Prelude.{◌≡◌, ◌≤◌, IfOk, vec_len, vec_capacity};
-ghost use Rattle.store.specs.Programs.{store_of, empty};
+ghost use Rattle.store.specs.Programs.{empty};
 ghost use Rattle.store.specs.Laws.{Runs, Changes};
 
 use crate::record::Record;
@@ -11,7 +11,7 @@ impl Store {
     /// follow, the laws of runs and of changes hold.
     #[tactic(auto, using(crate::proofs::Laws::changes))]
     pub fn new(heap: Global) -> Result<Store, AllocError>
-        ensures made { IfOk result (λ s. store_of s ≡ empty) }
+        ensures made { IfOk result (λ s. s ≡ empty) }
         ensures runs { Runs }
         ensures changes { Changes }
     {

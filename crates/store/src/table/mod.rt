@@ -1,7 +1,5 @@
-ghost use Rattle.std.specs.Prelude.{◌≡◌, ◌+◌, ◌≤◌, if◌then◌else◌, is_some, vec_len, vec_capacity};
-ghost use Rattle.store.specs.declared.table.TheConstants.{MOST_PROGRAMS};
-
 use crate::record::Record;
+use std::marker::Model;
 
 mod calls;
 mod lookup;
@@ -16,7 +14,19 @@ pub struct Store {
     stored: Vec<Record>,
     entry: Option<Record>,
     free: Vec<Record>,
-    ghost sixteen: { vec_len stored + (if is_some entry then 1 else 0) + vec_len free ≡ MOST_PROGRAMS },
-    ghost stored_room: { MOST_PROGRAMS ≤ vec_capacity stored },
-    ghost free_room: { MOST_PROGRAMS ≤ vec_capacity free },
+}
+
+impl Model for Store {
+    ghost use Rattle.std.specs.Prelude.{◌≡◌, ◌+◌, ◌≤◌, if◌then◌else◌, is_some, vec_len, vec_capacity};
+    ghost use Rattle.store.specs.declared.table.TheConstants.{MOST_PROGRAMS};
+    ghost use Rattle.store.specs.Programs.{Programs};
+
+    ghost Value = { Programs };
+
+    ghost view = { λ s. record { stored = s.stored.items; entry = s.entry } };
+
+    ghost invariant = { λ s.
+        (vec_len s.stored + (if is_some s.entry then 1 else 0) + vec_len s.free ≡ MOST_PROGRAMS)
+        × (MOST_PROGRAMS ≤ vec_capacity s.stored)
+        × (MOST_PROGRAMS ≤ vec_capacity s.free) };
 }

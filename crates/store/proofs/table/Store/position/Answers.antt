@@ -1,4 +1,4 @@
-use Rattle.std.proofs.Common.{◌≡◌, vec_items, sym, subst, rules}
+use Rattle.std.proofs.Common.{◌≡◌, sym, subst, rules}
 use Rattle.std.specs.List.{position}
 use Rattle.std.proofs.lemmas.Iterator.{YieldsList-from_slice}
 use Rattle.std.proofs.lemmas.Iterator.Search.{position_from_yields_List}
@@ -9,5 +9,5 @@ use Rattle.store.proofs.table.Store.position.Goals as goal
 
 pub returns : goal.returns
 returns c =
-    let e : c.position.result ≡ position (named c.args.number) (vec_items c.args.self.now.stored) = position_from_yields_List (named c.args.number) _ _ c.position.result c.position.ensures.ran (YieldsList-from_slice (vec_items c.args.self.now.stored) cc) (λ x b q k. search (rules, tests)) in
-    subst (Placed c.args.number (vec_items c.args.self.now.stored)) (sym e) (placed c.args.number (vec_items c.args.self.now.stored))
+    let e : c.position.result ≡ position (named c.args.number) c.self.inside.stored.items = position_from_yields_List (named c.args.number) _ _ c.position.result c.position.ensures.ran (YieldsList-from_slice c.self.inside.stored.items cc) (λ x b q k. search (rules, tests)) in
+    rw (← c.self.view_is) (subst (Placed c.args.number c.self.inside.stored.items) (sym e) (placed c.args.number c.self.inside.stored.items))
