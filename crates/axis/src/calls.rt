@@ -1,7 +1,6 @@
 ghost use Rattle.std.specs.Prelude.{◌≡◌};
 ghost use Rattle.states.specs.Observation.{shown_by, observed};
 ghost use Rattle.states.specs.Entry.{enter_reply, delete_reply};
-ghost use Rattle.store.specs.Programs.{store_of};
 ghost use Rattle.orders.specs.Orders.{order_reply};
 ghost use Rattle.laws.specs.Acts.{enter_axis, delete_axis, order_axis, levels_step};
 
@@ -31,8 +30,8 @@ impl<D: Drive> Axis<D> {
 
     /// An order, with the programs in store. A refusal becomes the axis's fault.
     pub fn order(&mut self, store: &Store, order: Order) -> Result<(), AxisFault>
-        ensures value { result ≡ order_reply order (store_of store.now) self.old.drive self.old.status }
-        ensures after { self.new ≡ order_axis order (store_of store.now) self.old }
+        ensures value { result ≡ order_reply order store.now self.old.drive self.old.status }
+        ensures after { self.new ≡ order_axis order store.now self.old }
     {
         let reading = self.reading();
         orders::order(&mut self.status, reading, store, order)

@@ -1,6 +1,5 @@
 ghost use Rattle.std.specs.Prelude.{◌≡◌};
 ghost use Rattle.drives.specs.Sending.{sent};
-ghost use Rattle.store.specs.Programs.{store_of};
 ghost use Rattle.states.specs.View.{raw_in, going_in, travel_of, status_of};
 ghost use Rattle.states.specs.Moves.{direction_of, ticked_in, braked_in};
 ghost use Rattle.ticks.specs.Ticks.{run_step, slow_step, tick_step, tick_reply};
@@ -49,8 +48,8 @@ impl<D: Drive> Axis<D> {
     /// One millisecond of the axis, with the programs in store. What it does depends on what the
     /// axis is doing and on the levels.
     pub fn tick(&mut self, store: &Store) -> Result<(), AxisFault>
-        ensures value { result ≡ tick_reply (store_of store.now) self.old }
-        ensures after { self.new ≡ tick_step (store_of store.now) self.old }
+        ensures value { result ≡ tick_reply store.now self.old }
+        ensures after { self.new ≡ tick_step store.now self.old }
     {
         let reading = self.reading();
         let levels = self.levels();

@@ -2,7 +2,6 @@ ghost use Rattle.std.specs.Prelude.{◌≡◌, cond, ◌+ℤ◌, ◌-ℤ◌, Som
 ghost use Rattle.motion.specs.Entry.{data_of};
 ghost use Rattle.motion.specs.Places.{rate_by};
 ghost use Rattle.motion.specs.Travel.{Going};
-ghost use Rattle.store.specs.Programs.{store_of};
 ghost use Rattle.states.specs.View.{status_of, work_of, phase_of};
 ghost use Rattle.orders.specs.Modes.{goes_forward};
 ghost use Rattle.orders.specs.Orders.{Answers};
@@ -25,7 +24,7 @@ pub struct Request<'a> {
 impl Request<'_> {
     /// The questions to an order, in their order: the first no gives the cause, else what the order does.
     pub fn answer(&self) -> Result<Accepted, Cause>
-        ensures { Answers self.now.order (verdict self.now.order (store_of self.now.store.now) self.now.reading (status_of self.now.axis.now)) result }
+        ensures { Answers self.now.order (verdict self.now.order self.now.store.now self.now.reading (status_of self.now.axis.now)) result }
     {
         let mode = Mode::try_from(self.order.mode)?;
         let plan = self.ask(mode)?;
@@ -34,7 +33,7 @@ impl Request<'_> {
 
     // 9, 10 and 11; a stop is asked no more after 10.
     fn ask(&self, mode: Mode) -> Result<Plan, Cause>
-        ensures { result ≡ verdict_in (Some mode) self.now.order (store_of self.now.store.now) self.now.reading (status_of self.now.axis.now) }
+        ensures { result ≡ verdict_in (Some mode) self.now.order self.now.store.now self.now.reading (status_of self.now.axis.now) }
     {
         if !admits(mode, self.order.command) {
             return Err(Cause::NotAdmitted);
@@ -53,7 +52,7 @@ impl Request<'_> {
 
     // 7, 12 and 13, then the mode's own questions.
     fn ask_standing(&self, mode: Mode) -> Result<Plan, Cause>
-        ensures { result ≡ standing_verdict mode self.now.order (store_of self.now.store.now) self.now.reading (status_of self.now.axis.now) }
+        ensures { result ≡ standing_verdict mode self.now.order self.now.store.now self.now.reading (status_of self.now.axis.now) }
     {
         let Some(view) = self.axis.view(self.reading) else {
             return ask_bare(mode);
@@ -94,7 +93,7 @@ struct StandingRequest<'a> {
 
 impl StandingRequest<'_> {
     fn ask(&self, mode: Mode) -> Result<Plan, Cause>
-        ensures { (g : Going) → result ≡ mode_verdict mode self.now.order (store_of self.now.store.now) self.now.view.reading (data_of self.now.view.machine.now) (work_of g self.now.view.work.now) }
+        ensures { (g : Going) → result ≡ mode_verdict mode self.now.order self.now.store.now self.now.view.reading (data_of self.now.view.machine.now) (work_of g self.now.view.work.now) }
     {
         match mode {
             Mode::AxisOff => Ok(Plan::OnlyMode),
@@ -188,7 +187,7 @@ impl StandingRequest<'_> {
 
     // 14 and 15.
     fn ask_start(&self) -> Result<Plan, Cause>
-        ensures { result ≡ start_verdict (data_of self.now.view.machine.now) self.now.order (store_of self.now.store.now) }
+        ensures { result ≡ start_verdict (data_of self.now.view.machine.now) self.now.order self.now.store.now }
     {
         let program = self.order.byte;
         let Some(measure) = self.store.measure_of(program) else {
@@ -202,7 +201,7 @@ impl StandingRequest<'_> {
 
     // 16 and 17, and 21 where a target is unfinished.
     fn ask_resume(&self) -> Result<Plan, Cause>
-        ensures { (g : Going) → result ≡ resume_verdict (data_of self.now.view.machine.now) (store_of self.now.store.now) self.now.view.reading (phase_of g self.now.view.work.now.state) self.now.view.work.now.zero }
+        ensures { (g : Going) → result ≡ resume_verdict (data_of self.now.view.machine.now) self.now.store.now self.now.view.reading (phase_of g self.now.view.work.now.state) self.now.view.work.now.zero }
     {
         let State::Held(hold) = self.view.work.state else {
             return Err(Cause::NothingHeld);

@@ -1,6 +1,5 @@
 ghost use Rattle.std.specs.Prelude.{◌≡◌};
 ghost use Rattle.motion.specs.Travel.{Going};
-ghost use Rattle.store.specs.Programs.{store_of};
 ghost use Rattle.states.specs.View.{status_of, phase_of};
 ghost use Rattle.orders.specs.Orders.{names_program, at_hold, order_fault, order_reply, order_step};
 
@@ -18,8 +17,8 @@ pub fn order(
     store: &Store,
     order: Order,
 ) -> Result<(), AxisFault>
-    ensures value { result ≡ order_reply order (store_of store.now) reading (status_of axis.old) }
-    ensures after { status_of axis.new ≡ order_step order (store_of store.now) reading (status_of axis.old) }
+    ensures value { result ≡ order_reply order store.now reading (status_of axis.old) }
+    ensures after { status_of axis.new ≡ order_step order store.now reading (status_of axis.old) }
 {
     let request = Request {
         axis,

@@ -1,5 +1,4 @@
 ghost use Rattle.std.specs.Prelude.{◌≡◌};
-ghost use Rattle.store.specs.Programs.{store_of};
 ghost use Rattle.rail.specs.Programs.{asked_of, told_of};
 
 use crate::script::{ProgramAsk, ProgramCall};
@@ -10,8 +9,8 @@ use store::{Store, StoreFault};
 impl ProgramCall<'_> {
     /// Asks the store.
     pub fn run(self, store: &mut Store) -> Result<(), StoreFault>
-        ensures value { result ≡ told_of self.entry (store_of store.old) }
-        ensures after { store_of store.new ≡ asked_of self.entry (store_of store.old) }
+        ensures value { result ≡ told_of self.entry store.old }
+        ensures after { store.new ≡ asked_of self.entry store.old }
     {
         match self.ask {
             ProgramAsk::Open { measure } => store.open_number(self.number, measure),

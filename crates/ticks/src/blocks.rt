@@ -1,7 +1,6 @@
 ghost use Rattle.std.specs.Prelude.{◌≡◌, ◌<◌, ◌≤◌, ◌+ℤ◌, unsigned_abs};
 ghost use Rattle.motion.specs.Travel.{Going};
 ghost use Rattle.motion.specs.Entry.{data_of};
-ghost use Rattle.store.specs.Programs.{store_of};
 ghost use Rattle.states.specs.Shift.{offset_by};
 ghost use Rattle.states.specs.Courses.{course_rate};
 ghost use Rattle.states.specs.State.{with_work};
@@ -16,8 +15,8 @@ use store::Store;
 
 /// Takes the next block of a program; one that has none left is over.
 pub fn take(axis: &mut Record, reading: Reading, store: &Store, run: Run) -> Result<(), AxisFault>
-    ensures value { result ≡ take_reply (store_of store.now) (course_in run) reading (status_of axis.old) }
-    ensures after { status_of axis.new ≡ take_step (store_of store.now) (course_in run) reading (status_of axis.old) }
+    ensures value { result ≡ take_reply store.now (course_in run) reading (status_of axis.old) }
+    ensures after { status_of axis.new ≡ take_step store.now (course_in run) reading (status_of axis.old) }
 {
     let Some(block) = store.block(run.program, usize::from(run.taken)) else {
         axis.work.state = State::Standing;

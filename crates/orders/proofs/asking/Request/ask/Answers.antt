@@ -1,6 +1,6 @@
 use Rattle.std.proofs.Common.{◌≡◌, true, false, refl, sym, ◌∙◌, rules}
 use Rattle.drives.specs.Meaning.{Meaning}
-use Rattle.store.specs.Programs.{Programs, store_of}
+use Rattle.store.specs.Programs.{Programs}
 use Rattle.states.specs.View.{status_of}
 use Rattle.states.specs.declared.mode.Mode.{Mode}
 use Rattle.states.specs.declared.order.Order.{Order}
@@ -24,4 +24,4 @@ returns c =
     let b : brakes s.work.phase ≡ false = search rules in
     let h : stops o.command ≡ false = search rules in
     let t : stands s.work.phase ≡ true = search rules in
-    c.ask_standing.ensures ∙ sym (past c.args.mode o (store_of a.store.now) a.reading s e b h t)
+    c.ask_standing.ensures ∙ sym (past c.args.mode o a.store.now a.reading s e b h t)
