@@ -71,10 +71,15 @@ impl Mover {
         ensures runs { PlaceRuns (mover_ramp self.now) (going_of self.now) result }
         ensures after { run_at (mover_ramp self.now) (going_of self.now) result ≡ ticked (mover_ramp self.now) (going_of self.now) }
     {
-        [self.above(), self.place, self.below()]
-            .iter()
-            .find(|&&place| self.can_run(place))
-            .copied()
+        let above = self.above();
+        if self.can_run(above) {
+            return Some(above);
+        }
+        if self.can_run(self.place) {
+            return Some(self.place);
+        }
+        let below = self.below();
+        self.can_run(below).then_some(below)
     }
 
     // What is left after a tick at a place; with none the move is complete.
@@ -99,6 +104,7 @@ impl Mover {
     // A tick at a place; with none the move is complete.
     fn run(&mut self, place: Option<Place>) -> Passed
         requires { PlaceRuns (mover_ramp self.old) (going_of self.old) place }
+        // a fact of before and after the call, and so none of the type
         ensures same { mover_data self.new ≡ mover_data self.old }
         ensures after { going_of self.new ≡ run_at (mover_ramp self.old) (going_of self.old) place }
         ensures value { result ≡ passing (going_of self.old) (going_of self.new) }
