@@ -1,6 +1,5 @@
 ghost use Rattle.std.specs.Prelude.{◌≡◌, ◌+◌, ◌-◌, ◌&&◌, nat_le};
 ghost use Rattle.motion.specs.Ramp.{ramp_of};
-ghost use Rattle.motion.specs.Entry.{data_of};
 ghost use Rattle.motion.specs.Travel.{gain, in_ramp, ticked, braked, begun, idle, passed_in, passing};
 ghost use Rattle.motion.specs.Place.{Summed, PlaceRuns, left_after, run_at};
 ghost use Rattle.motion.specs.View.{mover_data, mover_ramp, going_of};
@@ -12,7 +11,7 @@ use crate::passed::Passed;
 impl MachineData {
     /// The frequency of a ramp step, from 1 on, in mHz. Past its end the ramp stays at its maximum.
     pub fn frequency(&self, step: u32) -> u32
-        ensures { result ≡ ramp_of (data_of self.now) step }
+        ensures { result ≡ ramp_of self.now step }
     {
         let index = step.saturating_sub(1) as usize;
         self.table.get(index).copied().unwrap_or(self.values.fm)
@@ -119,7 +118,7 @@ impl Mover {
     }
 
     pub fn machine(&self) -> &MachineData
-        ensures { data_of result.now ≡ mover_data self.now }
+        ensures { result.now ≡ mover_data self.now }
     {
         &self.machine
     }
@@ -134,7 +133,7 @@ impl Mover {
     /// No move yet.
     #[tactic(auto, using(crate::proofs::Way::ways))]
     pub fn new(machine: MachineData) -> Mover
-        ensures same { mover_data result ≡ data_of machine }
+        ensures same { mover_data result ≡ machine }
         ensures none { going_of result ≡ idle }
     {
         Mover {
