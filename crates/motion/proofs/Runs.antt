@@ -194,4 +194,4 @@ first-tick f fm v D one e = (
 )
 
 pub movers : Movers
-movers m = (ramp_rises (mover_data m) m.machine.frequencies m.machine.ordered, record { within = m.within; brakes = m.safe })
+movers m = (ramp_rises (mover_data m) m.valid.in_range.0 m.valid.agree.0, record { within = m.within; brakes = m.safe })

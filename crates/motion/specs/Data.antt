@@ -1,5 +1,5 @@
 -- Machine data: the range of each datum, and how the data have to agree.
-use Rattle.std.specs.Prelude.{◌≡◌, ℕ, ◌≤◌, ℤ, pos, negsuc, ◌≤ℤ◌, ◌<ℤ◌, slice_index_or}
+use Rattle.std.specs.Prelude.{◌≡◌, ℕ, ◌-◌, ◌≤◌, List, ℤ, pos, negsuc, ◌≤ℤ◌, ◌<ℤ◌, slice_index, slice_index_or}
 use Rattle.motion.specs.declared.raw.RawData.{RawData}
 use Rattle.motion.specs.Ramp.{ramp_of}
 
@@ -49,3 +49,12 @@ InRange d = Frequencies d × Signal d × Gear d × Limits d × Offsets d
 -- the data agree
 abbrev pub Agree : RawData → Type 0
 Agree d = Ordered d × Spread d × Referenced d × Short d
+
+-- data that pass the check
+pub record Valid (d : RawData) : Type 0 where
+  pub in_range : InRange d
+  pub agree : Agree d
+
+-- a table of the ramp of data: step i, up to the 4,096th, stands at place i - 1
+abbrev pub Tabled : RawData → List ℕ → Type 0
+Tabled d table = (i : ℕ) → 1 ≤ i → i ≤ 4096 → slice_index table (i - 1) ≡ ramp_of d i

@@ -7,10 +7,6 @@ use Rattle.motion.specs.declared.fault.DataFault.TheVariants.{OutOfRange, Disagr
 use Rattle.motion.specs.Data.{InRange, Agree}
 use Rattle.motion.specs.Questions.{refusal}
 
--- the data, as they were sent
-abbrev pub data_of : MachineData → RawData
-data_of m = m.values
-
 -- the fault of an answer
 abbrev pub fault_in : Result MachineData DataFault → Option DataFault
 fault_in (Ok m) = None
@@ -23,7 +19,7 @@ Refused d Disagree = InRange d × (Agree d → ⊥)
 
 -- what is made holds exactly what was sent, in range and agreeing; a fault comes exactly when it is due
 abbrev pub Checked : RawData → Result MachineData DataFault → Type 0
-Checked d (Ok m) = InRange d × Agree d × (data_of m ≡ d)
+Checked d (Ok m) = InRange d × Agree d × (m ≡ d)
 Checked d (Err e) = Refused d e
 
 -- the answer to data: the fault of the first question that fails, and what each answer says

@@ -6,7 +6,7 @@ use Rattle.motion.specs.Travel.{Going}
 use Rattle.motion.specs.Laws.{Rises, Safe}
 
 abbrev pub mover_data : Mover → RawData
-mover_data m = m.machine.values
+mover_data m = m.machine
 
 abbrev pub going_of : Mover → Going
 going_of m = record { rate = m.rate; total = m.total; left = m.left; step = m.place.step }

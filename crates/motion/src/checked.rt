@@ -1,7 +1,7 @@
 ghost use Rattle.std.specs.Prelude.{◌≡◌, ◌&&◌, Decides};
-ghost use Rattle.motion.specs.Data.{Ordered, Spread, Referenced};
+ghost use Rattle.motion.specs.Data.{Ordered, Spread, Referenced, Valid};
 ghost use Rattle.motion.specs.Questions.{ordered, placed, refusal};
-ghost use Rattle.motion.specs.Entry.{data_of, fault_in, Checked, Entered};
+ghost use Rattle.motion.specs.Entry.{fault_in, Checked, Entered};
 
 use crate::fault::DataFault;
 use crate::machine::{MachineData, STEPS};
@@ -48,7 +48,8 @@ impl TryFrom<RawData> for MachineData {
 impl MachineData {
     /// The data as they were sent.
     pub fn values(&self) -> &RawData
-        ensures { result.now ≡ data_of self.now }
+        ensures same { result.now ≡ self.now }
+        ensures valid { Valid self.now }
     {
         &self.values
     }

@@ -5,18 +5,15 @@ ghost use Rattle.motion.specs.Faults.{number_of};
 #[derive(Clone, Copy, PartialEq, Eq, Debug)]
 pub enum DataFault {
     /// a datum is out of its range
-    OutOfRange,
+    OutOfRange = 4,
     /// the data do not agree
-    Disagree,
+    Disagree = 5,
 }
 
 impl DataFault {
     pub fn number(self) -> u8
         ensures { result ≡ number_of self }
     {
-        match self {
-            DataFault::OutOfRange => 4,
-            DataFault::Disagree => 5,
-        }
+        self as u8
     }
 }

@@ -1,4 +1,5 @@
 ghost use Rattle.std.specs.Prelude.{◌≡◌, ◌-◌, ◌*◌, ◌^◌, ◌≤◌};
+ghost use Rattle.motion.specs.Data.{Valid};
 ghost use Rattle.motion.specs.Ramp.{ramp_of};
 ghost use Rattle.motion.specs.Travel.{way};
 
@@ -29,12 +30,14 @@ pub struct Mover {
     pub(crate) left: u128,
     // where the last tick was
     pub(crate) place: Place,
+    // the machine is seen by its values alone, so what is true of them is said here
+    ghost valid: { Valid machine },
     ghost slowest: { 1 ≤ rate },
-    ghost fastest: { rate ≤ machine.values.fm },
+    ghost fastest: { rate ≤ machine.fm },
     ghost steps: { place.step ≤ 4096 },
     ghost longest: { total ≤ 1000000 * 2 ^ 63 },
     ghost within: { left ≤ total },
-    ghost summed: { place.sum ≡ way (ramp_of machine.values) rate place.step },
+    ghost summed: { place.sum ≡ way (ramp_of machine) rate place.step },
     // braking from here never runs more than is left
-    ghost safe: { way (ramp_of machine.values) rate (place.step - 1) ≤ left },
+    ghost safe: { way (ramp_of machine) rate (place.step - 1) ≤ left },
 }

@@ -1,5 +1,4 @@
 ghost use Rattle.std.specs.Prelude.{◌≡◌, ◌≤◌, unsigned_abs};
-ghost use Rattle.motion.specs.Entry.{data_of};
 ghost use Rattle.motion.specs.Places.{rounded_of, held, pulses_by, nearest_by, rate_by};
 
 use crate::machine::MachineData;
@@ -26,7 +25,7 @@ fn held_between(start: i32, target: i32, q: i128) -> i32
 impl MachineData {
     /// The pulses of a coordinate, from zero. No 32-bit coordinate has more than 50,000,000,000,000.
     pub fn pulses_of(&self, coordinate: i32) -> i64
-        ensures value { result ≡ pulses_by (data_of self.now) coordinate }
+        ensures value { result ≡ pulses_by self.now coordinate }
         ensures small { unsigned_abs result ≤ 50000000000000 }
     {
         rounded(i64::from(coordinate), self.values.pulses, self.values.units) as i64
@@ -34,21 +33,21 @@ impl MachineData {
 
     /// The unit nearest to n pulses from zero.
     pub fn nearest_to(&self, n: i64) -> i128
-        ensures { result ≡ nearest_by (data_of self.now) n }
+        ensures { result ≡ nearest_by self.now n }
     {
         rounded(n, self.values.units, self.values.pulses)
     }
 
     /// The coordinate of a move under way: the unit nearest to n, held between start and target.
     pub fn coordinate(&self, n: i64, start: i32, target: i32) -> i32
-        ensures { result ≡ held start target (nearest_by (data_of self.now) n) }
+        ensures { result ≡ held start target (nearest_by self.now n) }
     {
         held_between(start, target, self.nearest_to(n))
     }
 
     /// The rate of a speed per minute, in mHz.
     pub fn rate_of(&self, speed: u16) -> u64
-        ensures { result ≡ rate_by (data_of self.now) speed }
+        ensures { result ≡ rate_by self.now speed }
     {
         let per_minute = u64::from(speed) * self.values.measure.units_in() * 1_000;
         per_minute * u64::from(self.values.pulses) / (60 * u64::from(self.values.units))

@@ -1,6 +1,5 @@
 ghost use Rattle.std.specs.Prelude.{◌≡◌, ◌+◌, ◌-◌, ◌&&◌, nat_le};
 ghost use Rattle.motion.specs.Ramp.{ramp_of};
-ghost use Rattle.motion.specs.Entry.{data_of};
 ghost use Rattle.motion.specs.Travel.{gain, in_ramp, ticked, braked, begun, idle, passed_in, passing};
 ghost use Rattle.motion.specs.Place.{Summed, PlaceRuns, left_after, run_at};
 ghost use Rattle.motion.specs.View.{mover_data, mover_ramp, going_of};
@@ -12,7 +11,7 @@ use crate::passed::Passed;
 impl MachineData {
     /// The frequency of a ramp step, from 1 on, in mHz. Past its end the ramp stays at its maximum.
     pub fn frequency(&self, step: u32) -> u32
-        ensures { result ≡ ramp_of (data_of self.now) step }
+        ensures { result ≡ ramp_of self.now step }
     {
         let index = step.saturating_sub(1) as usize;
         self.table.get(index).copied().unwrap_or(self.values.fm)
@@ -71,10 +70,15 @@ impl Mover {
         ensures runs { PlaceRuns (mover_ramp self.now) (going_of self.now) result }
         ensures after { run_at (mover_ramp self.now) (going_of self.now) result ≡ ticked (mover_ramp self.now) (going_of self.now) }
     {
-        [self.above(), self.place, self.below()]
-            .iter()
-            .find(|&&place| self.can_run(place))
-            .copied()
+        let above = self.above();
+        if self.can_run(above) {
+            return Some(above);
+        }
+        if self.can_run(self.place) {
+            return Some(self.place);
+        }
+        let below = self.below();
+        self.can_run(below).then_some(below)
     }
 
     // What is left after a tick at a place; with none the move is complete.
@@ -99,6 +103,7 @@ impl Mover {
     // A tick at a place; with none the move is complete.
     fn run(&mut self, place: Option<Place>) -> Passed
         requires { PlaceRuns (mover_ramp self.old) (going_of self.old) place }
+        // a fact of before and after the call, and so none of the type
         ensures same { mover_data self.new ≡ mover_data self.old }
         ensures after { going_of self.new ≡ run_at (mover_ramp self.old) (going_of self.old) place }
         ensures value { result ≡ passing (going_of self.old) (going_of self.new) }
@@ -113,7 +118,7 @@ impl Mover {
     }
 
     pub fn machine(&self) -> &MachineData
-        ensures { data_of result.now ≡ mover_data self.now }
+        ensures { result.now ≡ mover_data self.now }
     {
         &self.machine
     }
@@ -128,7 +133,7 @@ impl Mover {
     /// No move yet.
     #[tactic(auto, using(crate::proofs::Way::ways))]
     pub fn new(machine: MachineData) -> Mover
-        ensures same { mover_data result ≡ data_of machine }
+        ensures same { mover_data result ≡ machine }
         ensures none { going_of result ≡ idle }
     {
         Mover {

@@ -8,6 +8,7 @@ invariant_of-self c =
     let m = c.args.self.now in
     let l = lands (mover_ramp m) (going_of m) c.args.place c.unwrap_or-self.result c.requires c.unwrap_or-self.ensures in
     record {
+      valid = m.valid;
       slowest = m.slowest;
       fastest = m.fastest;
       steps = l.0;
