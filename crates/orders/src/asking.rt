@@ -1,5 +1,4 @@
 ghost use Rattle.std.specs.Prelude.{◌≡◌, cond, ◌+ℤ◌, ◌-ℤ◌, Some};
-ghost use Rattle.motion.specs.Entry.{data_of};
 ghost use Rattle.motion.specs.Places.{rate_by};
 ghost use Rattle.motion.specs.Travel.{Going};
 ghost use Rattle.states.specs.View.{status_of, work_of, phase_of};
@@ -93,7 +92,7 @@ struct StandingRequest<'a> {
 
 impl StandingRequest<'_> {
     fn ask(&self, mode: Mode) -> Result<Plan, Cause>
-        ensures { (g : Going) → result ≡ mode_verdict mode self.now.order self.now.store.now self.now.view.reading (data_of self.now.view.machine.now) (work_of g self.now.view.work.now) }
+        ensures { (g : Going) → result ≡ mode_verdict mode self.now.order self.now.store.now self.now.view.reading self.now.view.machine.now (work_of g self.now.view.work.now) }
     {
         match mode {
             Mode::AxisOff => Ok(Plan::OnlyMode),
@@ -114,14 +113,14 @@ impl StandingRequest<'_> {
 
     // 18 to 21.
     fn go(&self, wish: Wish) -> Result<Plan, Cause>
-        ensures { result ≡ go_verdict (data_of self.now.view.machine.now) wish.rate wish.target self.now.view.reading self.now.view.work.now.zero self.now.view.work.now.referenced }
+        ensures { result ≡ go_verdict self.now.view.machine.now wish.rate wish.target self.now.view.reading self.now.view.work.now.zero self.now.view.work.now.referenced }
     {
         Ok(Plan::Go(self.view.ask_move(wish)?))
     }
 
     // As far as the axis may go.
     fn jog(&self) -> Wish
-        ensures { (g : Going) → result ≡ record { target = jog_target (data_of self.now.view.machine.now) self.now.order (work_of g self.now.view.work.now); rate = rate_by (data_of self.now.view.machine.now) self.now.order.word } }
+        ensures { (g : Going) → result ≡ record { target = jog_target self.now.view.machine.now self.now.order (work_of g self.now.view.work.now); rate = rate_by self.now.view.machine.now self.now.order.word } }
     {
         let span = self.view.limits();
         let target = if self.order.command == Command::Forward {
@@ -136,7 +135,7 @@ impl StandingRequest<'_> {
     }
 
     fn position(&self) -> Wish
-        ensures { (g : Going) → result ≡ record { target = position_target self.now.order (work_of g self.now.view.work.now); rate = rate_by (data_of self.now.view.machine.now) self.now.order.word } }
+        ensures { (g : Going) → result ≡ record { target = position_target self.now.order (work_of g self.now.view.work.now); rate = rate_by self.now.view.machine.now self.now.order.word } }
     {
         let shift = self.view.work.own_shift();
         Wish {
@@ -146,7 +145,7 @@ impl StandingRequest<'_> {
     }
 
     fn relative(&self) -> Wish
-        ensures { (g : Going) → result ≡ record { target = relative_target self.now.order (work_of g self.now.view.work.now); rate = rate_by (data_of self.now.view.machine.now) self.now.order.word } }
+        ensures { (g : Going) → result ≡ record { target = relative_target self.now.order (work_of g self.now.view.work.now); rate = rate_by self.now.view.machine.now self.now.order.word } }
     {
         Wish {
             target: self.moved(),
@@ -156,7 +155,7 @@ impl StandingRequest<'_> {
 
     // The rate of the speed that the order gives.
     fn rate(&self) -> u64
-        ensures { result ≡ rate_by (data_of self.now.view.machine.now) self.now.order.word }
+        ensures { result ≡ rate_by self.now.view.machine.now self.now.order.word }
     {
         self.view.machine.rate_of(self.order.word)
     }
@@ -187,7 +186,7 @@ impl StandingRequest<'_> {
 
     // 14 and 15.
     fn ask_start(&self) -> Result<Plan, Cause>
-        ensures { result ≡ start_verdict (data_of self.now.view.machine.now) self.now.order self.now.store.now }
+        ensures { result ≡ start_verdict self.now.view.machine.now self.now.order self.now.store.now }
     {
         let program = self.order.byte;
         let Some(measure) = self.store.measure_of(program) else {
@@ -201,7 +200,7 @@ impl StandingRequest<'_> {
 
     // 16 and 17, and 21 where a target is unfinished.
     fn ask_resume(&self) -> Result<Plan, Cause>
-        ensures { (g : Going) → result ≡ resume_verdict (data_of self.now.view.machine.now) self.now.store.now self.now.view.reading (phase_of g self.now.view.work.now.state) self.now.view.work.now.zero }
+        ensures { (g : Going) → result ≡ resume_verdict self.now.view.machine.now self.now.store.now self.now.view.reading (phase_of g self.now.view.work.now.state) self.now.view.work.now.zero }
     {
         let State::Held(hold) = self.view.work.state else {
             return Err(Cause::NothingHeld);

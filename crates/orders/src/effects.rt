@@ -1,5 +1,4 @@
 ghost use Rattle.std.specs.Prelude.{◌≡◌, ◌≤◌, ◌-ℤ◌, unsigned_abs};
-ghost use Rattle.motion.specs.Entry.{data_of};
 ghost use Rattle.motion.specs.Places.{pulses_by};
 ghost use Rattle.motion.specs.Travel.{Going};
 ghost use Rattle.states.specs.State.{with_work, stopped};
@@ -114,7 +113,7 @@ fn go_on(state: &mut State)
 
 // The count at zero that makes the reference coordinate the place where the drive is.
 fn zero_of(machine: &MachineData, reading: Reading) -> i64
-    ensures value { result ≡ (reading.count -ℤ pulses_by (data_of machine.now) (data_of machine.now).reference) }
+    ensures value { result ≡ (reading.count -ℤ pulses_by machine.now machine.now.reference) }
     ensures small { unsigned_abs result ≤ 100000000000000 }
 {
     let reference = machine.values().reference;

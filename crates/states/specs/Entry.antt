@@ -4,7 +4,6 @@ use Rattle.drives.specs.Meaning.{Meaning}
 use Rattle.motion.specs.declared.raw.RawData.{RawData}
 use Rattle.motion.specs.declared.fault.DataFault.{DataFault}
 use Rattle.motion.specs.declared.machine.MachineData.{MachineData}
-use Rattle.motion.specs.Entry.{data_of}
 use Rattle.motion.specs.Questions.{refusal}
 use Rattle.states.specs.declared.fault.Cause.{Cause}
 use Rattle.states.specs.declared.fault.Cause.TheVariants.{DataWhileBusy, OfData, NoMachineData}
@@ -74,5 +73,5 @@ delete_reply s = call_reply (delete_no s)
 
 -- what making machine data of what was sent gives
 abbrev pub Checked : RawData → Result MachineData Cause → Type 0
-Checked d (Ok m) = (data_refusal d ≡ None) × (data_of m ≡ d)
+Checked d (Ok m) = (data_refusal d ≡ None) × (m ≡ d)
 Checked d (Err cause) = data_refusal d ≡ Some cause

@@ -1,5 +1,4 @@
 ghost use Rattle.std.specs.Prelude.{◌≡◌, ◌&&◌, cond, Some, None, ◌+ℤ◌, int_le, nat_le, IfSome, option_map};
-ghost use Rattle.motion.specs.Entry.{data_of};
 ghost use Rattle.motion.specs.Places.{pulses_by};
 ghost use Rattle.states.specs.View.{raw_in};
 ghost use Rattle.states.specs.Moves.{lowest_of, highest_of, distance_to, aim_for, way_verdict, move_verdict};
@@ -40,7 +39,7 @@ pub struct AxisView<'a> {
 impl Record {
     /// The axis with what its drive reads; none without machine data.
     pub fn view(&self, reading: Reading) -> Option<AxisView<'_>>
-        ensures machine { option_map (λ view. data_of view.machine.now) result ≡ raw_in self.now.machine }
+        ensures machine { option_map (λ view. view.machine.now) result ≡ raw_in self.now.machine }
         ensures work { IfSome result (λ view. view.work.now ≡ self.now.work) }
         ensures reading { IfSome result (λ view. view.reading ≡ reading) }
     {
@@ -56,7 +55,7 @@ impl Record {
 impl AxisView<'_> {
     /// 18 to 21: may the axis move so? The first no gives the cause.
     pub fn ask_move(&self, wish: Wish) -> Result<Aim, Cause>
-        ensures { result ≡ move_verdict (data_of self.now.machine.now) wish.rate wish.target self.now.reading self.now.work.now.zero self.now.work.now.referenced }
+        ensures { result ≡ move_verdict self.now.machine.now wish.rate wish.target self.now.reading self.now.work.now.zero self.now.work.now.referenced }
     {
         if !self.rate_fits(wish) {
             return Err(Cause::RateOutside);
@@ -69,7 +68,7 @@ impl AxisView<'_> {
 
     // 20 and 21, of a target that is within the limits.
     fn ask_way(&self, target: i32, rate: u64) -> Result<Aim, Cause>
-        ensures { result ≡ way_verdict (data_of self.now.machine.now) rate target self.now.reading self.now.work.now.zero }
+        ensures { result ≡ way_verdict self.now.machine.now rate target self.now.reading self.now.work.now.zero }
     {
         if !self.count_fits(target) {
             return Err(Cause::CountOutside);
@@ -79,14 +78,14 @@ impl AxisView<'_> {
     }
 
     fn rate_fits(&self, wish: Wish) -> bool
-        ensures { result ≡ (nat_le 1 wish.rate && nat_le wish.rate (data_of self.now.machine.now).fm) }
+        ensures { result ≡ (nat_le 1 wish.rate && nat_le wish.rate self.now.machine.now.fm) }
     {
         (1..=u64::from(self.machine.values().fm)).contains(&wish.rate)
     }
 
     /// The limits of the machine data; without a reference those of a jog.
     pub fn limits(&self) -> Span
-        ensures { result ≡ record { low = lowest_of (data_of self.now.machine.now) self.now.work.now.referenced; high = highest_of (data_of self.now.machine.now) self.now.work.now.referenced } }
+        ensures { result ≡ record { low = lowest_of self.now.machine.now self.now.work.now.referenced; high = highest_of self.now.machine.now self.now.work.now.referenced } }
     {
         if self.work.referenced {
             let values = self.machine.values();
@@ -104,7 +103,7 @@ impl AxisView<'_> {
 
     /// A move to a target, with its distance from where the drive is.
     pub fn aim(&self, target: i32, rate: u64) -> Aim
-        ensures { result ≡ aim_for (data_of self.now.machine.now) rate target self.now.reading self.now.work.now.zero }
+        ensures { result ≡ aim_for self.now.machine.now rate target self.now.reading self.now.work.now.zero }
     {
         Aim {
             target,
@@ -114,14 +113,14 @@ impl AxisView<'_> {
     }
 
     fn distance(&self, target: i32) -> i64
-        ensures { result ≡ distance_to (data_of self.now.machine.now) target self.now.reading self.now.work.now.zero }
+        ensures { result ≡ distance_to self.now.machine.now target self.now.reading self.now.work.now.zero }
     {
         self.machine.pulses_of(target) - self.work.from_zero(self.reading)
     }
 
     // The drive's count at the target.
     fn count_at(&self, target: i32) -> i64
-        ensures { result ≡ (self.now.work.now.zero +ℤ pulses_by (data_of self.now.machine.now) target) }
+        ensures { result ≡ (self.now.work.now.zero +ℤ pulses_by self.now.machine.now target) }
     {
         let pulses = self.machine.pulses_of(target);
         self.work.zero + pulses
@@ -129,7 +128,7 @@ impl AxisView<'_> {
 
     // That count lies between the drive's ends.
     fn count_fits(&self, target: i32) -> bool
-        ensures { result ≡ (int_le self.now.reading.least (self.now.work.now.zero +ℤ pulses_by (data_of self.now.machine.now) target) && int_le (self.now.work.now.zero +ℤ pulses_by (data_of self.now.machine.now) target) self.now.reading.greatest) }
+        ensures { result ≡ (int_le self.now.reading.least (self.now.work.now.zero +ℤ pulses_by self.now.machine.now target) && int_le (self.now.work.now.zero +ℤ pulses_by self.now.machine.now target) self.now.reading.greatest) }
     {
         self.reading.spans(self.count_at(target))
     }

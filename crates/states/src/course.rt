@@ -1,5 +1,4 @@
 ghost use Rattle.std.specs.Prelude.{◌≡◌};
-ghost use Rattle.motion.specs.Entry.{data_of};
 ghost use Rattle.states.specs.View.{course_in};
 ghost use Rattle.states.specs.Courses.{opening, course_rate};
 
@@ -25,7 +24,7 @@ impl Run {
 
     /// The rate of the block under way.
     pub fn rate(&self, machine: &MachineData) -> u64
-        ensures { result ≡ course_rate (data_of machine.now) (course_in self.now) }
+        ensures { result ≡ course_rate machine.now (course_in self.now) }
     {
         match self.motion {
             Motion::Rapid => u64::from(machine.values().fm),

@@ -1,5 +1,4 @@
 ghost use Rattle.std.specs.Prelude.{◌≡◌, ◌≤◌, ◌+ℤ◌, unsigned_abs};
-ghost use Rattle.motion.specs.Entry.{data_of};
 ghost use Rattle.motion.specs.Travel.{Going};
 ghost use Rattle.states.specs.View.{course_in, course_if, raw_in, status_of, phase_of};
 ghost use Rattle.states.specs.State.{course_of};
@@ -14,7 +13,7 @@ use reader::OffsetChoice;
 impl Run {
     /// The offset that the program has chosen.
     pub fn chosen_offset(&self, machine: &MachineData) -> i32
-        ensures { result ≡ offset_by (data_of machine.now) (course_in self.now).offset }
+        ensures { result ≡ offset_by machine.now (course_in self.now).offset }
     {
         let [first, second, third, fourth] = machine.values().offsets;
         match self.offset {

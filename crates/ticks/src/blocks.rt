@@ -1,6 +1,5 @@
 ghost use Rattle.std.specs.Prelude.{◌≡◌, ◌<◌, ◌≤◌, ◌+ℤ◌, unsigned_abs};
 ghost use Rattle.motion.specs.Travel.{Going};
-ghost use Rattle.motion.specs.Entry.{data_of};
 ghost use Rattle.states.specs.Shift.{offset_by};
 ghost use Rattle.states.specs.Courses.{course_rate};
 ghost use Rattle.states.specs.State.{with_work};
@@ -99,13 +98,13 @@ struct BlockMove<'a> {
 
 impl BlockMove<'_> {
     fn ask(&self) -> Result<Aim, Cause>
-        ensures { (g : Going) → result ≡ target_verdict (data_of self.now.view.machine.now) (course_in self.now.run) self.now.x self.now.view.reading (work_of g self.now.view.work.now) }
+        ensures { (g : Going) → result ≡ target_verdict self.now.view.machine.now (course_in self.now.run) self.now.x self.now.view.reading (work_of g self.now.view.work.now) }
     {
         self.view.ask_move(self.wish())
     }
 
     fn wish(&self) -> Wish
-        ensures { (g : Going) → result ≡ record { target = block_target (data_of self.now.view.machine.now) (course_in self.now.run) self.now.x (work_of g self.now.view.work.now); rate = course_rate (data_of self.now.view.machine.now) (course_in self.now.run) } }
+        ensures { (g : Going) → result ≡ record { target = block_target self.now.view.machine.now (course_in self.now.run) self.now.x (work_of g self.now.view.work.now); rate = course_rate self.now.view.machine.now (course_in self.now.run) } }
     {
         Wish {
             target: match self.run.way {
@@ -118,14 +117,14 @@ impl BlockMove<'_> {
 
     // Under G90: X and the shift, with the offset that the program has chosen.
     fn shifted(&self) -> i64
-        ensures { result ≡ (self.now.x +ℤ ((self.now.view.work.now.offset +ℤ self.now.view.work.now.tool) +ℤ offset_by (data_of self.now.view.machine.now) self.now.run.offset)) }
+        ensures { result ≡ (self.now.x +ℤ ((self.now.view.work.now.offset +ℤ self.now.view.work.now.tool) +ℤ offset_by self.now.view.machine.now self.now.run.offset)) }
     {
         let shift = self.shift();
         i64::from(self.x) + shift
     }
 
     fn shift(&self) -> i64
-        ensures value { result ≡ ((self.now.view.work.now.offset +ℤ self.now.view.work.now.tool) +ℤ offset_by (data_of self.now.view.machine.now) self.now.run.offset) }
+        ensures value { result ≡ ((self.now.view.work.now.offset +ℤ self.now.view.work.now.tool) +ℤ offset_by self.now.view.machine.now self.now.run.offset) }
         ensures small { unsigned_abs result ≤ 6442450944 }
     {
         let own = self.view.work.own_shift();

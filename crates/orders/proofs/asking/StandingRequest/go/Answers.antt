@@ -1,5 +1,4 @@
 use Rattle.std.proofs.Common.{◌≡◌, Err, sym, ◌∙◌, rules}
-use Rattle.motion.specs.Entry.{data_of}
 use Rattle.states.specs.Moves.{Questions, move_questions, aim_for}
 use Rattle.states.proofs.Asked.{carried, refused}
 use Rattle.orders.specs.declared.plan.Plan.TheVariants.{Go}
@@ -8,7 +7,7 @@ use Rattle.orders.proofs.asking.StandingRequest.go.Goals as goal
 pub returns-in_err-ask_move : goal.returns-in_err-ask_move
 returns-in_err-ask_move c =
     let v = c.args.self.now.view in
-    let d = data_of v.machine.now in
+    let d = v.machine.now in
     let m = v.reading in
     let qs : Questions = move_questions d c.args.wish.rate c.args.wish.target m v.work.now.zero v.work.now.referenced in
     let aim = aim_for d c.args.wish.rate c.args.wish.target m v.work.now.zero in
@@ -18,7 +17,7 @@ returns-in_err-ask_move c =
 pub returns : goal.returns
 returns c =
     let v = c.args.self.now.view in
-    let d = data_of v.machine.now in
+    let d = v.machine.now in
     let m = v.reading in
     let qs : Questions = move_questions d c.args.wish.rate c.args.wish.target m v.work.now.zero v.work.now.referenced in
     let aim = aim_for d c.args.wish.rate c.args.wish.target m v.work.now.zero in

@@ -1,5 +1,4 @@
 use Rattle.std.proofs.Common.{◌∙◌}
-use Rattle.motion.specs.Entry.{data_of}
 use Rattle.states.specs.View.{course_in, work_of}
 use Rattle.states.specs.Courses.{course_rate}
 use Rattle.states.specs.Moves.{move_verdict}
@@ -11,7 +10,7 @@ pub returns : goal.returns
 returns c g =
     let b = c.args.self.now in
     let v = b.view in
-    let d = data_of v.machine.now in
+    let d = v.machine.now in
     let w = v.work.now in
     let run = course_in b.run in
     let m = v.reading in
