@@ -1,20 +1,15 @@
 -- An accepted pulse of a take-up layer.
-use Rattle.std.proofs.Common.{◌≡◌, ℕ, Bool, true, cond, ℤ, pos, ◌+ℤ◌, neg_ℤ, Ok, Err, Result, add-one, arith}
+use Rattle.std.proofs.Common.{◌≡◌, ℕ, true, ℤ, pos, ◌+ℤ◌, neg_ℤ, Ok, Result, add-one, arith}
 use Rattle.std.proofs.lemmas.Int.{ints}
 use Rattle.drives.specs.declared.direction.Direction.{Direction}
 use Rattle.drives.specs.declared.direction.Direction.TheVariants.{Forward, Backward}
 use Rattle.drives.specs.declared.fault.Refusal.{Refusal}
-use Rattle.drives.specs.declared.fault.Refusal.TheVariants.{NotReady, Ended}
-use Rattle.drives.specs.Meaning.{Meaning, Sound, at, one, room, answered, pulsed, turned}
+use Rattle.drives.specs.Meaning.{Meaning, Sound, at, one, answered, pulsed, turned}
 use Rattle.drives.specs.Sending.{sent, told, reached}
 use Rattle.drives.specs.Play.{lead, fits, layer, passed, beneath}
 use Rattle.drives.proofs.Sends.{reach}
 
--- a drive that is ready and has room accepts a pulse
-pub accepted : (d : Direction) (m : Meaning) {ready roomy : Bool} {a : Result (Unit {0}) Refusal} → ready ≡ m.ready → roomy ≡ room d m → a ≡ cond ready (cond roomy (Ok tt) (Err Ended)) (Err NotReady) → a ≡ Ok tt → answered d m ≡ Ok tt
-accepted d m h o a t = cc
-
--- the flank after it leaves room for the play again
+-- after an accepted pulse the flank leaves room for the play again
 room_again : (b : ℕ) (d f : Direction) (m : Meaning) → Sound m → fits b f m ≡ true → answered d (layer b f m) ≡ Ok tt → fits b d (at (reached d (passed b d f) m) m) ≡ true
 room_again b Forward Forward m s h r = grind (arith, ints)
 room_again b Backward Backward m s h r = grind (arith, ints)
