@@ -75,9 +75,9 @@ pub cut_blanks : (m : Measure) (at : ℕ) (xs : List ℕ) → cut m 0 at xs ≡ 
 cut_blanks m at [] = refl
 cut_blanks m at (b ∷ bs) = blanks_by m at b bs (blank b) refl (cut_blanks m (suc at) bs)
 
-pub left_start : (m : Measure) (r s : Rest) (k : ℕ) → k ≡ prefix_len blank r.bytes.now → s.bytes.now ≡ drop k r.bytes.now → s.at ≡ r.at + k → left m r ≡ left m s
-left_start m r s k n b a = cut_blanks m r.at r.bytes.now ∙ cc
+pub left_start : (r s : Rest) (k : ℕ) → k ≡ prefix_len blank r.bytes.now → s.bytes.now ≡ drop k r.bytes.now → s.at ≡ r.at + k → s.measure ≡ r.measure → left r ≡ left s
+left_start r s k n b a m = cut_blanks r.measure r.at r.bytes.now ∙ cc
 
-pub begins_start : (m : Measure) (r s : Rest) (b : ℕ) (ys : List ℕ) (o : Result (Part × Rest) LineFault) → left m r ≡ left m s → s.at + length s.bytes.now ≡ r.at + length r.bytes.now → length s.bytes.now ≤ length r.bytes.now → s.bytes.now ≡ b ∷ ys → Begins m s.at (b ∷ ys) o → Begins m r.at r.bytes.now o
-begins_start m r s b ys (Err f) same end le e i = (i.0, same ∙ ap (cut m 0 s.at) e ∙ i.1, i.2)
-begins_start m r s b ys (Ok n) same end le e i = (same ∙ ap (cut m 0 s.at) e ∙ i.0, omega (arith, i.1, end, ap length e), omega (arith, i.2, le, ap length e))
+pub begins_start : (m : Measure) (r s : Rest) (b : ℕ) (ys : List ℕ) (o : Result (Part × Rest) LineFault) → m ≡ s.measure → left r ≡ left s → s.at + length s.bytes.now ≡ r.at + length r.bytes.now → length s.bytes.now ≤ length r.bytes.now → s.bytes.now ≡ b ∷ ys → Begins m s.at (b ∷ ys) o → Begins r.measure r.at r.bytes.now o
+begins_start m r s b ys (Err f) is same end le e i = (i.0, same ∙ ap (cut s.measure 0 s.at) e ∙ ap (λ n. cut n 0 s.at (b ∷ ys)) (sym is) ∙ i.1, i.2)
+begins_start m r s b ys (Ok n) is same end le e i = (same ∙ ap (cut s.measure 0 s.at) e ∙ ap (λ n. cut n 0 s.at (b ∷ ys)) (sym is) ∙ i.0, omega (arith, i.1, end, ap length e), omega (arith, i.2, le, ap length e))
