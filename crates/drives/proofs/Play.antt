@@ -11,10 +11,7 @@ use Rattle.drives.proofs.Sends.{reach}
 
 -- after an accepted pulse the flank leaves room for the play again
 room_again : (b : ℕ) (d f : Direction) (m : Meaning) → Sound m → fits b f m ≡ true → answered d (layer b f m) ≡ Ok tt → fits b d (at (reached d (passed b d f) m) m) ≡ true
-room_again b Forward Forward m s h r = grind (arith, ints)
-room_again b Backward Backward m s h r = grind (arith, ints)
-room_again b Forward Backward m s h r = grind (arith, ints)
-room_again b Backward Forward m s h r = grind (arith, ints)
+room_again b d f m s h r = grind (arith, ints)
 
 -- the count below after k pulses that all have room
 abbrev gone : Direction → ℕ → ℤ → ℤ
@@ -23,10 +20,7 @@ gone Backward k n = n +ℤ neg_ℤ (pos k)
 
 -- there is room below for the play and the pulse
 all_gone : (b : ℕ) (d f : Direction) (m : Meaning) → Sound m → fits b f m ≡ true → answered d (layer b f m) ≡ Ok tt → reached d (passed b d f) m ≡ gone d (passed b d f) m.count
-all_gone b Forward Forward m s h r = grind (arith, ints)
-all_gone b Backward Backward m s h r = grind (arith, ints)
-all_gone b Forward Backward m s h r = grind (arith, ints)
-all_gone b Backward Forward m s h r = grind (arith, ints)
+all_gone b d f m s h r = grind (arith, ints)
 
 all_told : (b : ℕ) (d f : Direction) (m : Meaning) → Sound m → fits b f m ≡ true → answered d (layer b f m) ≡ Ok tt → told d (passed b d f) m ≡ Ok tt
 all_told b Forward Forward m s h r = grind (arith, ints)
@@ -36,10 +30,7 @@ all_told b Backward Forward m s h r = rw (add-one, reach Backward b m s) (grind 
 
 -- and the layer has gone by one
 gone_by_one : (b : ℕ) (d f : Direction) (n : ℤ) → gone d (passed b d f) n +ℤ pos (lead b d) ≡ (n +ℤ pos (lead b f)) +ℤ one d
-gone_by_one b Forward Forward n = omega (arith, ints)
-gone_by_one b Backward Backward n = omega (arith, ints)
-gone_by_one b Forward Backward n = omega (arith, ints)
-gone_by_one b Backward Forward n = omega (arith, ints)
+gone_by_one b d f n = grind (arith, ints)
 
 layer_goes : (b : ℕ) (d f : Direction) (m : Meaning) → Sound m → fits b f m ≡ true → answered d (layer b f m) ≡ Ok tt → layer b d (at (reached d (passed b d f) m) m) ≡ pulsed d (layer b f m)
 layer_goes b d f m s h r = grind (arith, room_again b d f m s h r, all_gone b d f m s h r, gone_by_one b d f m.count)

@@ -27,10 +27,8 @@ refused-at d i k m x r e q a p h =
 
 -- where k pulses come to
 pub reach : (d : Direction) (k : ℕ) (m : Meaning) → Sound m → sent d k m ≡ at (reached d k m) m
-reach Forward zero m s = grind (arith, ints)
-reach Backward zero m s = grind (arith, ints)
-reach Forward (suc k) m s = rw (reach Forward k m s) (grind (arith, ints))
-reach Backward (suc k) m s = rw (reach Backward k m s) (grind (arith, ints))
+reach d zero m s = grind (arith, ints)
+reach d (suc k) m s = rw (reach d k m s) (grind (arith, ints))
 
 pub sent-more : (d : Direction) (i : ℕ) (m : Meaning) → sent d (i + 1) m ≡ pulsed d (sent d i m)
 sent-more d i m = rw add-one
