@@ -21,8 +21,7 @@ pub refused-at : (d : Direction) (i k : ℕ) (m x : Meaning) (r : Result (Unit {
 refused-at d i k m x r e q a p h =
     let j = k - suc i in
     let is : k ≡ suc (j + i) = omega arith in
-    let next : answered d (sent d i m) ≡ Err e = cc in
-    let rest : sent d (j + i) m ≡ x = cc (stays d j i m e next) in
+    let rest = stays d j i m e cc in
     (rw is (cc), rw is (grind (arith, still d x e)))
 
 -- where k pulses come to
