@@ -27,13 +27,13 @@ cut_step m at b bs p k h e t =
     ∙ ap (onward p at) (cut_skip m k (suc at) bs ∙ ap (λ a. cut m 0 a (drop k bs)) (omega arith))
 
 pub remark-closed : (at : ℕ) (bs : List ℕ) → prefix_len inside bs < length bs → remark_in at bs ≡ Some (remark (take (prefix_len inside bs) bs) at)
-remark-closed at bs h = ap (λ o. remark_of o at bs) (cond-true _ _ _ (lt-ltb _ _ h))
+remark-closed at bs h = grind (arith, nat_tests)
 
 pub opened-word : (m : Measure) (at b : ℕ) (bs : List ℕ) (l : Letter) → (b ≡ 40 → ⊥) → letter_of b ≡ Some l → formed m l (take (prefix_len numeric bs) bs) ≡ true → opened m at b bs ≡ Some (word l (take (prefix_len numeric bs) bs) at)
-opened-word m at b bs l h e f = cond-false (eqb b 40) _ _ (ne_eqb b 40 h) ∙ ap (λ o. word_in m o at bs) e ∙ cond-true _ _ _ f
+opened-word m at b bs l h e f = grind (arith, nat_tests)
 
 pub taken_word : (b : ℕ) (bs : List ℕ) → (b ≡ 40 → ⊥) → taken b bs ≡ prefix_len numeric bs
-taken_word b bs h = cond-false (eqb b 40) _ _ (ne_eqb b 40 h)
+taken_word b bs h = grind (arith, nat_tests)
 
 -- the part of a line's first bytes, and what is left after it
 abbrev pub Whole : Measure → ℕ → List ℕ → Piece → ℕ → List ℕ → Type 0
