@@ -1,7 +1,6 @@
 -- Lists of acts.
-use Rattle.std.proofs.Common.{◌≡◌, List, [], ◌∷◌, ◌++◌, refl, ◌∙◌, arith}
+use Rattle.std.proofs.Common.{◌≡◌, List, [], ◌∷◌, ◌++◌, refl, arith}
 use Rattle.drives.specs.declared.replay.Act.{Act}
-use Rattle.drives.specs.declared.replay.Act.TheVariants.{Pulse, Level}
 use Rattle.drives.specs.Meaning.{Meaning}
 use Rattle.drives.specs.Laws.{acted, replayed, EndsStay}
 

@@ -2,7 +2,6 @@
 use Rattle.std.proofs.Common.{◌≡◌, ℕ, zero, suc, ◌+◌, ◌-◌, ◌<◌, Err, Result, suc-add, add-one, arith}
 use Rattle.std.proofs.lemmas.Int.{ints}
 use Rattle.drives.specs.declared.direction.Direction.{Direction}
-use Rattle.drives.specs.declared.direction.Direction.TheVariants.{Forward, Backward}
 use Rattle.drives.specs.declared.fault.Refusal.{Refusal}
 use Rattle.drives.specs.Meaning.{Meaning, Sound, at, answered, pulsed}
 use Rattle.drives.specs.Sending.{sent, told, reached}

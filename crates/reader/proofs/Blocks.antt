@@ -5,13 +5,13 @@ use Rattle.std.proofs.lemmas.List.{append_assoc}
 use Rattle.std.specs.Option.{option_map}
 use Rattle.units.specs.declared.Measure.{Measure}
 use Rattle.reader.specs.declared.part.Letter.{Letter}
-use Rattle.reader.specs.declared.part.Letter.TheVariants.{N, G, X, F, M}
+use Rattle.reader.specs.declared.part.Letter.TheVariants.{G}
 use Rattle.reader.specs.declared.block.Preparatory.{Preparatory}
 use Rattle.reader.specs.declared.block.Preparatory.TheVariants.{OfMotion, OfOffset, OfWay}
 use Rattle.reader.specs.declared.block.Value.{Value}
 use Rattle.reader.specs.declared.block.Value.TheVariants as value
 use Rattle.reader.specs.declared.block.Block.{Block}
-use Rattle.reader.specs.Words.{rank, onto, within, upto, units_of, preparatory, same_group, value_of}
+use Rattle.reader.specs.Words.{rank, onto, preparatory, same_group, value_of}
 use Rattle.reader.specs.Lines.{Piece, word, remark}
 use Rattle.reader.specs.Questions.{clash, misplaced, outside, empty, holding, more, said, block_from}
 use Rattle.reader.specs.Answers.{Among, NoneBad, Has, Told, Gives}
@@ -59,17 +59,10 @@ rank_g : (g : Preparatory) → 1 ≡ rank_at (kind (value.Prepared g))
 rank_g g = grind arith
 
 rank_kind : (m : Measure) (l : Letter) (n : List ℕ) (v : Value) → value_of m l n ≡ Some v → rank l ≡ rank_at (kind v)
-rank_kind m N n v e = let s = some_from value.Number (within 1 9999 (onto 0 n)) v e in ap (λ u. rank_at (kind u)) s.2
-rank_kind m G n v e = let s = some_from value.Prepared (preparatory (onto 0 n)) v e in rank_g s.0 ∙ ap (λ u. rank_at (kind u)) s.2
-rank_kind m X n v e = let s = some_from value.Target (units_of m n) v e in ap (λ u. rank_at (kind u)) s.2
-rank_kind m F n v e = let s = some_from value.Rate (within 1 65000 (onto 0 n)) v e in ap (λ u. rank_at (kind u)) s.2
-rank_kind m M n v e = let s = some_from value.Auxiliary (upto 99 (onto 0 n)) v e in ap (λ u. rank_at (kind u)) s.2
+rank_kind m l n v e = grind (arith, rank_g)
 
 both_g : (m : Measure) (n o : List ℕ) (v w : Value) → value_of m G n ≡ Some v → value_of m G o ≡ Some w → kind v ≡ kind w → same_group (preparatory (onto 0 n)) (preparatory (onto 0 o)) ≡ true
-both_g m n o v w p q e =
-    let s = some_from value.Prepared (preparatory (onto 0 n)) v p in
-    let t = some_from value.Prepared (preparatory (onto 0 o)) w q in
-    ap (λ g. same_group g (preparatory (onto 0 o))) s.1 ∙ ap (same_group (Some s.0)) t.1 ∙ same_kind_group s.0 t.0 (ap kind s.2 ∙ e ∙ sym (ap kind t.2))
+both_g m n o v w p q e = grind (arith, same_kind_group)
 
 twice : (m : Measure) (l k : Letter) (n o : List ℕ) (v w : Value) → rank l ≡ rank k → value_of m l n ≡ Some v → value_of m k o ≡ Some w → kind v ≡ kind w → (not (eqb (rank l) 1) || same_group (preparatory (onto 0 n)) (preparatory (onto 0 o))) ≡ true
 twice m l k n o v w r p q e = grind (arith, both_g m n o v w)
@@ -101,8 +94,7 @@ fill m b [] = b
 fill m b (p ∷ ps) = fill m (put (said m p) b) ps
 
 more_put : (o : Option Value) (b : Block) → more o (Some b) ≡ Some (put o b)
-more_put None b = refl
-more_put (Some v) b = refl
+more_put o b = grind arith
 
 from_some : (m : Measure) (ps : List Piece) (b : Block) → block_from m (Some b) ps ≡ Some (fill m b ps)
 from_some m [] b = refl
