@@ -1,25 +1,17 @@
 -- An accepted pulse of a take-up layer.
-use Rattle.std.proofs.Common.{◌≡◌, ℕ, Bool, true, cond, ℤ, pos, ◌+ℤ◌, neg_ℤ, Ok, Err, Result, add-one, arith}
+use Rattle.std.proofs.Common.{◌≡◌, ℕ, true, ℤ, pos, ◌+ℤ◌, neg_ℤ, Ok, Result, add-one, arith}
 use Rattle.std.proofs.lemmas.Int.{ints}
 use Rattle.drives.specs.declared.direction.Direction.{Direction}
 use Rattle.drives.specs.declared.direction.Direction.TheVariants.{Forward, Backward}
 use Rattle.drives.specs.declared.fault.Refusal.{Refusal}
-use Rattle.drives.specs.declared.fault.Refusal.TheVariants.{NotReady, Ended}
-use Rattle.drives.specs.Meaning.{Meaning, Sound, at, one, room, answered, pulsed, turned}
+use Rattle.drives.specs.Meaning.{Meaning, Sound, at, one, answered, pulsed, turned}
 use Rattle.drives.specs.Sending.{sent, told, reached}
 use Rattle.drives.specs.Play.{lead, fits, layer, passed, beneath}
 use Rattle.drives.proofs.Sends.{reach}
 
--- a drive that is ready and has room accepts a pulse
-pub accepted : (d : Direction) (m : Meaning) {ready roomy : Bool} {a : Result (Unit {0}) Refusal} → ready ≡ m.ready → roomy ≡ room d m → a ≡ cond ready (cond roomy (Ok tt) (Err Ended)) (Err NotReady) → a ≡ Ok tt → answered d m ≡ Ok tt
-accepted d m h o a t = cc
-
--- the flank after it leaves room for the play again
+-- after an accepted pulse the flank leaves room for the play again
 room_again : (b : ℕ) (d f : Direction) (m : Meaning) → Sound m → fits b f m ≡ true → answered d (layer b f m) ≡ Ok tt → fits b d (at (reached d (passed b d f) m) m) ≡ true
-room_again b Forward Forward m s h r = grind (arith, ints)
-room_again b Backward Backward m s h r = grind (arith, ints)
-room_again b Forward Backward m s h r = grind (arith, ints)
-room_again b Backward Forward m s h r = grind (arith, ints)
+room_again b d f m s h r = grind (arith, ints)
 
 -- the count below after k pulses that all have room
 abbrev gone : Direction → ℕ → ℤ → ℤ
@@ -28,10 +20,7 @@ gone Backward k n = n +ℤ neg_ℤ (pos k)
 
 -- there is room below for the play and the pulse
 all_gone : (b : ℕ) (d f : Direction) (m : Meaning) → Sound m → fits b f m ≡ true → answered d (layer b f m) ≡ Ok tt → reached d (passed b d f) m ≡ gone d (passed b d f) m.count
-all_gone b Forward Forward m s h r = grind (arith, ints)
-all_gone b Backward Backward m s h r = grind (arith, ints)
-all_gone b Forward Backward m s h r = grind (arith, ints)
-all_gone b Backward Forward m s h r = grind (arith, ints)
+all_gone b d f m s h r = grind (arith, ints)
 
 all_told : (b : ℕ) (d f : Direction) (m : Meaning) → Sound m → fits b f m ≡ true → answered d (layer b f m) ≡ Ok tt → told d (passed b d f) m ≡ Ok tt
 all_told b Forward Forward m s h r = grind (arith, ints)
@@ -41,10 +30,7 @@ all_told b Backward Forward m s h r = rw (add-one, reach Backward b m s) (grind 
 
 -- and the layer has gone by one
 gone_by_one : (b : ℕ) (d f : Direction) (n : ℤ) → gone d (passed b d f) n +ℤ pos (lead b d) ≡ (n +ℤ pos (lead b f)) +ℤ one d
-gone_by_one b Forward Forward n = omega (arith, ints)
-gone_by_one b Backward Backward n = omega (arith, ints)
-gone_by_one b Forward Backward n = omega (arith, ints)
-gone_by_one b Backward Forward n = omega (arith, ints)
+gone_by_one b d f n = grind (arith, ints)
 
 layer_goes : (b : ℕ) (d f : Direction) (m : Meaning) → Sound m → fits b f m ≡ true → answered d (layer b f m) ≡ Ok tt → layer b d (at (reached d (passed b d f) m) m) ≡ pulsed d (layer b f m)
 layer_goes b d f m s h r = grind (arith, room_again b d f m s h r, all_gone b d f m s h r, gone_by_one b d f m.count)

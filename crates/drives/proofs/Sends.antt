@@ -2,7 +2,6 @@
 use Rattle.std.proofs.Common.{◌≡◌, ℕ, zero, suc, ◌+◌, ◌-◌, ◌<◌, Err, Result, suc-add, add-one, arith}
 use Rattle.std.proofs.lemmas.Int.{ints}
 use Rattle.drives.specs.declared.direction.Direction.{Direction}
-use Rattle.drives.specs.declared.direction.Direction.TheVariants.{Forward, Backward}
 use Rattle.drives.specs.declared.fault.Refusal.{Refusal}
 use Rattle.drives.specs.Meaning.{Meaning, Sound, at, answered, pulsed}
 use Rattle.drives.specs.Sending.{sent, told, reached}
@@ -21,16 +20,13 @@ pub refused-at : (d : Direction) (i k : ℕ) (m x : Meaning) (r : Result (Unit {
 refused-at d i k m x r e q a p h =
     let j = k - suc i in
     let is : k ≡ suc (j + i) = omega arith in
-    let next : answered d (sent d i m) ≡ Err e = cc in
-    let rest : sent d (j + i) m ≡ x = cc (stays d j i m e next) in
+    let rest = stays d j i m e cc in
     (rw is (cc), rw is (grind (arith, still d x e)))
 
 -- where k pulses come to
 pub reach : (d : Direction) (k : ℕ) (m : Meaning) → Sound m → sent d k m ≡ at (reached d k m) m
-reach Forward zero m s = grind (arith, ints)
-reach Backward zero m s = grind (arith, ints)
-reach Forward (suc k) m s = rw (reach Forward k m s) (grind (arith, ints))
-reach Backward (suc k) m s = rw (reach Backward k m s) (grind (arith, ints))
+reach d zero m s = grind (arith, ints)
+reach d (suc k) m s = rw (reach d k m s) (grind (arith, ints))
 
 pub sent-more : (d : Direction) (i : ℕ) (m : Meaning) → sent d (i + 1) m ≡ pulsed d (sent d i m)
 sent-more d i m = rw add-one

@@ -1,4 +1,4 @@
-ghost use Rattle.std.specs.Prelude.{◌≡◌, cond};
+ghost use Rattle.std.specs.Prelude.{◌≡◌};
 ghost use Rattle.drives.specs.Meaning.{Meaning, Sound, room, answered, pulsed, levelled};
 
 use crate::direction::Direction;
@@ -43,18 +43,18 @@ pub trait Drive {
         }
     }
 
-    ghost sound: { (d : Self) → Sound (meaning d) };
-}
+    /// What one pulse would be answered; nothing is sent.
+    fn check_pulse(&self, direction: Direction) -> Result<(), Refusal>
+        ensures { result ≡ answered direction (meaning self.now) }
+    {
+        if !self.ready() {
+            return Err(Refusal::NotReady);
+        }
+        if !self.has_room(direction) {
+            return Err(Refusal::Ended);
+        }
+        Ok(())
+    }
 
-// Whether a drive accepts a pulse: it has to be ready, and there has to be room for it.
-pub(crate) fn accept(ready: bool, room: bool) -> Result<(), Refusal>
-    ensures { result ≡ cond ready (cond room (Ok tt) (Err Refusal.Ended)) (Err Refusal.NotReady) }
-{
-    if !ready {
-        return Err(Refusal::NotReady);
-    }
-    if !room {
-        return Err(Refusal::Ended);
-    }
-    Ok(())
+    ghost sound: { (d : Self) → Sound (meaning d) };
 }

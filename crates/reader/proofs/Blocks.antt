@@ -1,17 +1,17 @@
 -- The block holds just what the words of a line say.
 use Rattle.std.proofs.Common.{◌≡◌, ℕ, ◌-◌, true, false, cond, not, ◌||◌, eqb, ltb, leb, ◌⊎◌, List, [], ◌∷◌, ◌++◌, is_some, Some, None, Option, sym, refl, ap, ◌∙◌, subst, inl, inr, ⊎_elim, arith}
-use Rattle.std.proofs.lemmas.Bool.{and_from, or_right, or_parts, eq-eqb, both_ways}
+use Rattle.std.proofs.lemmas.Bool.{and_from, or_right, or_parts, eq-eqb, both_ways, cases_eq}
 use Rattle.std.proofs.lemmas.List.{append_assoc}
 use Rattle.std.specs.Option.{option_map}
 use Rattle.units.specs.declared.Measure.{Measure}
 use Rattle.reader.specs.declared.part.Letter.{Letter}
-use Rattle.reader.specs.declared.part.Letter.TheVariants.{N, G, X, F, M}
+use Rattle.reader.specs.declared.part.Letter.TheVariants.{G}
 use Rattle.reader.specs.declared.block.Preparatory.{Preparatory}
 use Rattle.reader.specs.declared.block.Preparatory.TheVariants.{OfMotion, OfOffset, OfWay}
 use Rattle.reader.specs.declared.block.Value.{Value}
 use Rattle.reader.specs.declared.block.Value.TheVariants as value
 use Rattle.reader.specs.declared.block.Block.{Block}
-use Rattle.reader.specs.Words.{rank, onto, within, upto, units_of, preparatory, same_group, value_of}
+use Rattle.reader.specs.Words.{rank, onto, preparatory, same_group, value_of}
 use Rattle.reader.specs.Lines.{Piece, word, remark}
 use Rattle.reader.specs.Questions.{clash, misplaced, outside, empty, holding, more, said, block_from}
 use Rattle.reader.specs.Answers.{Among, NoneBad, Has, Told, Gives}
@@ -27,87 +27,25 @@ kind (value.Target x) = 4
 kind (value.Rate x) = 5
 kind (value.Auxiliary x) = 6
 
--- a block with a value more has another value just where it had it, or where the two are one
-held : (v w : Value) (b : Block) → ((kind w ≡ kind v) × (Has (holding w b) v → w ≡ v)) ⊎ ((Has b v → Has (holding w b) v) × (Has (holding w b) v → Has b v))
-held (value.Number x) (value.Number y) b = inl (refl, λ h. ap (value.Number) (same_some y x h))
-held (value.Number x) (value.Prepared (OfMotion y)) b = inr (λ h. h, λ h. h)
-held (value.Number x) (value.Prepared (OfOffset y)) b = inr (λ h. h, λ h. h)
-held (value.Number x) (value.Prepared (OfWay y)) b = inr (λ h. h, λ h. h)
-held (value.Number x) (value.Target y) b = inr (λ h. h, λ h. h)
-held (value.Number x) (value.Rate y) b = inr (λ h. h, λ h. h)
-held (value.Number x) (value.Auxiliary y) b = inr (λ h. h, λ h. h)
-held (value.Prepared (OfMotion x)) (value.Number y) b = inr (λ h. h, λ h. h)
-held (value.Prepared (OfMotion x)) (value.Prepared (OfMotion y)) b = inl (refl, λ h. ap (λ x. value.Prepared (OfMotion x)) (same_some y x h))
-held (value.Prepared (OfMotion x)) (value.Prepared (OfOffset y)) b = inr (λ h. h, λ h. h)
-held (value.Prepared (OfMotion x)) (value.Prepared (OfWay y)) b = inr (λ h. h, λ h. h)
-held (value.Prepared (OfMotion x)) (value.Target y) b = inr (λ h. h, λ h. h)
-held (value.Prepared (OfMotion x)) (value.Rate y) b = inr (λ h. h, λ h. h)
-held (value.Prepared (OfMotion x)) (value.Auxiliary y) b = inr (λ h. h, λ h. h)
-held (value.Prepared (OfOffset x)) (value.Number y) b = inr (λ h. h, λ h. h)
-held (value.Prepared (OfOffset x)) (value.Prepared (OfMotion y)) b = inr (λ h. h, λ h. h)
-held (value.Prepared (OfOffset x)) (value.Prepared (OfOffset y)) b = inl (refl, λ h. ap (λ x. value.Prepared (OfOffset x)) (same_some y x h))
-held (value.Prepared (OfOffset x)) (value.Prepared (OfWay y)) b = inr (λ h. h, λ h. h)
-held (value.Prepared (OfOffset x)) (value.Target y) b = inr (λ h. h, λ h. h)
-held (value.Prepared (OfOffset x)) (value.Rate y) b = inr (λ h. h, λ h. h)
-held (value.Prepared (OfOffset x)) (value.Auxiliary y) b = inr (λ h. h, λ h. h)
-held (value.Prepared (OfWay x)) (value.Number y) b = inr (λ h. h, λ h. h)
-held (value.Prepared (OfWay x)) (value.Prepared (OfMotion y)) b = inr (λ h. h, λ h. h)
-held (value.Prepared (OfWay x)) (value.Prepared (OfOffset y)) b = inr (λ h. h, λ h. h)
-held (value.Prepared (OfWay x)) (value.Prepared (OfWay y)) b = inl (refl, λ h. ap (λ x. value.Prepared (OfWay x)) (same_some y x h))
-held (value.Prepared (OfWay x)) (value.Target y) b = inr (λ h. h, λ h. h)
-held (value.Prepared (OfWay x)) (value.Rate y) b = inr (λ h. h, λ h. h)
-held (value.Prepared (OfWay x)) (value.Auxiliary y) b = inr (λ h. h, λ h. h)
-held (value.Target x) (value.Number y) b = inr (λ h. h, λ h. h)
-held (value.Target x) (value.Prepared (OfMotion y)) b = inr (λ h. h, λ h. h)
-held (value.Target x) (value.Prepared (OfOffset y)) b = inr (λ h. h, λ h. h)
-held (value.Target x) (value.Prepared (OfWay y)) b = inr (λ h. h, λ h. h)
-held (value.Target x) (value.Target y) b = inl (refl, λ h. ap (value.Target) (same_some y x h))
-held (value.Target x) (value.Rate y) b = inr (λ h. h, λ h. h)
-held (value.Target x) (value.Auxiliary y) b = inr (λ h. h, λ h. h)
-held (value.Rate x) (value.Number y) b = inr (λ h. h, λ h. h)
-held (value.Rate x) (value.Prepared (OfMotion y)) b = inr (λ h. h, λ h. h)
-held (value.Rate x) (value.Prepared (OfOffset y)) b = inr (λ h. h, λ h. h)
-held (value.Rate x) (value.Prepared (OfWay y)) b = inr (λ h. h, λ h. h)
-held (value.Rate x) (value.Target y) b = inr (λ h. h, λ h. h)
-held (value.Rate x) (value.Rate y) b = inl (refl, λ h. ap (value.Rate) (same_some y x h))
-held (value.Rate x) (value.Auxiliary y) b = inr (λ h. h, λ h. h)
-held (value.Auxiliary x) (value.Number y) b = inr (λ h. h, λ h. h)
-held (value.Auxiliary x) (value.Prepared (OfMotion y)) b = inr (λ h. h, λ h. h)
-held (value.Auxiliary x) (value.Prepared (OfOffset y)) b = inr (λ h. h, λ h. h)
-held (value.Auxiliary x) (value.Prepared (OfWay y)) b = inr (λ h. h, λ h. h)
-held (value.Auxiliary x) (value.Target y) b = inr (λ h. h, λ h. h)
-held (value.Auxiliary x) (value.Rate y) b = inr (λ h. h, λ h. h)
-held (value.Auxiliary x) (value.Auxiliary y) b = inl (refl, λ h. ap (value.Auxiliary) (same_some y x h))
+-- a block with a value more keeps every value of another field, and has no other
+held_one : (v w : Value) (b : Block) → kind w ≡ kind v → Has (holding w b) v → w ≡ v
+held_one v w b e h = grind arith
+
+held_keeps : (v w : Value) (b : Block) → (kind w ≡ kind v → ⊥) → Has b v → Has (holding w b) v
+held_keeps v w b n h = grind arith
+
+held_back : (v w : Value) (b : Block) → (kind w ≡ kind v → ⊥) → Has (holding w b) v → Has b v
+held_back v w b n h = grind arith
 
 held_same : (v : Value) (b : Block) → Has (holding v b) v
-held_same (value.Number x) b = refl
-held_same (value.Prepared (OfMotion x)) b = refl
-held_same (value.Prepared (OfOffset x)) b = refl
-held_same (value.Prepared (OfWay x)) b = refl
-held_same (value.Target x) b = refl
-held_same (value.Rate x) b = refl
-held_same (value.Auxiliary x) b = refl
+held_same v b = grind arith
 
 empty-has : (v : Value) → Has empty v → ⊥
-empty-has (value.Number x) h = none_some x h
-empty-has (value.Prepared (OfMotion x)) h = none_some x h
-empty-has (value.Prepared (OfOffset x)) h = none_some x h
-empty-has (value.Prepared (OfWay x)) h = none_some x h
-empty-has (value.Target x) h = none_some x h
-empty-has (value.Rate x) h = none_some x h
-empty-has (value.Auxiliary x) h = none_some x h
+empty-has v h = grind arith
 
 -- words of one field clash
 same_kind_group : (g h : Preparatory) → kind (value.Prepared g) ≡ kind (value.Prepared h) → same_group (Some g) (Some h) ≡ true
-same_kind_group (OfMotion x) (OfMotion y) e = refl
-same_kind_group (OfMotion x) (OfOffset y) e = absurd (omega arith)
-same_kind_group (OfMotion x) (OfWay y) e = absurd (omega arith)
-same_kind_group (OfOffset x) (OfMotion y) e = absurd (omega arith)
-same_kind_group (OfOffset x) (OfOffset y) e = refl
-same_kind_group (OfOffset x) (OfWay y) e = absurd (omega arith)
-same_kind_group (OfWay x) (OfMotion y) e = absurd (omega arith)
-same_kind_group (OfWay x) (OfOffset y) e = absurd (omega arith)
-same_kind_group (OfWay x) (OfWay y) e = refl
+same_kind_group g h e = grind arith
 
 pub some_from : {A B : Type 0} (f : A → B) (o : Option A) (v : B) → option_map f o ≡ Some v → (x : A) × (o ≡ Some x) × (f x ≡ v)
 some_from f None v e = absurd (none_some v e)
@@ -118,33 +56,16 @@ abbrev rank_at : ℕ → ℕ
 rank_at k = cond (eqb k 0) 0 (cond (leb k 3) 1 (k - 2))
 
 rank_g : (g : Preparatory) → 1 ≡ rank_at (kind (value.Prepared g))
-rank_g (OfMotion x) = refl
-rank_g (OfOffset x) = refl
-rank_g (OfWay x) = refl
+rank_g g = grind arith
 
 rank_kind : (m : Measure) (l : Letter) (n : List ℕ) (v : Value) → value_of m l n ≡ Some v → rank l ≡ rank_at (kind v)
-rank_kind m N n v e = let s = some_from value.Number (within 1 9999 (onto 0 n)) v e in ap (λ u. rank_at (kind u)) s.2
-rank_kind m G n v e = let s = some_from value.Prepared (preparatory (onto 0 n)) v e in rank_g s.0 ∙ ap (λ u. rank_at (kind u)) s.2
-rank_kind m X n v e = let s = some_from value.Target (units_of m n) v e in ap (λ u. rank_at (kind u)) s.2
-rank_kind m F n v e = let s = some_from value.Rate (within 1 65000 (onto 0 n)) v e in ap (λ u. rank_at (kind u)) s.2
-rank_kind m M n v e = let s = some_from value.Auxiliary (upto 99 (onto 0 n)) v e in ap (λ u. rank_at (kind u)) s.2
+rank_kind m l n v e = grind (arith, rank_g)
 
 both_g : (m : Measure) (n o : List ℕ) (v w : Value) → value_of m G n ≡ Some v → value_of m G o ≡ Some w → kind v ≡ kind w → same_group (preparatory (onto 0 n)) (preparatory (onto 0 o)) ≡ true
-both_g m n o v w p q e =
-    let s = some_from value.Prepared (preparatory (onto 0 n)) v p in
-    let t = some_from value.Prepared (preparatory (onto 0 o)) w q in
-    ap (λ g. same_group g (preparatory (onto 0 o))) s.1 ∙ ap (same_group (Some s.0)) t.1 ∙ same_kind_group s.0 t.0 (ap kind s.2 ∙ e ∙ sym (ap kind t.2))
+both_g m n o v w p q e = grind (arith, same_kind_group)
 
 twice : (m : Measure) (l k : Letter) (n o : List ℕ) (v w : Value) → rank l ≡ rank k → value_of m l n ≡ Some v → value_of m k o ≡ Some w → kind v ≡ kind w → (not (eqb (rank l) 1) || same_group (preparatory (onto 0 n)) (preparatory (onto 0 o))) ≡ true
-twice m N k n o v w r p q e = refl
-twice m X k n o v w r p q e = refl
-twice m F k n o v w r p q e = refl
-twice m M k n o v w r p q e = refl
-twice m G N n o v w r p q e = absurd (omega arith)
-twice m G X n o v w r p q e = absurd (omega arith)
-twice m G F n o v w r p q e = absurd (omega arith)
-twice m G M n o v w r p q e = absurd (omega arith)
-twice m G G n o v w r p q e = both_g m n o v w p q e
+twice m l k n o v w r p q e = grind (arith, both_g m n o v w)
 
 pub one_field : (m : Measure) (p q : Piece) (v w : Value) → said m p ≡ Some v → said m q ≡ Some w → kind v ≡ kind w → clash p q ≡ true
 one_field m (remark s at) q v w a b e = absurd (none_some v a)
@@ -173,8 +94,7 @@ fill m b [] = b
 fill m b (p ∷ ps) = fill m (put (said m p) b) ps
 
 more_put : (o : Option Value) (b : Block) → more o (Some b) ≡ Some (put o b)
-more_put None b = refl
-more_put (Some v) b = refl
+more_put o b = grind arith
 
 from_some : (m : Measure) (ps : List Piece) (b : Block) → block_from m (Some b) ps ≡ Some (fill m b ps)
 from_some m [] b = refl
@@ -186,7 +106,7 @@ fill_append m (p ∷ ps) qs b = fill_append m ps qs (put (said m p) b)
 
 put_keeps : (o : Option Value) (b : Block) (v : Value) → Has b v → ((w : Value) → o ≡ Some w → kind w ≡ kind v → ⊥) → Has (put o b) v
 put_keeps None b v h other = h
-put_keeps (Some w) b v h other = ⊎_elim (λ s. absurd (other w refl s.0)) (λ k. k.0 h) (held v w b)
+put_keeps (Some w) b v h other = held_keeps v w b (other w refl) h
 
 fill_keeps : (m : Measure) (ps : List Piece) (b : Block) (v : Value) → Has b v → ((q : Piece) → Among q ps → (w : Value) → said m q ≡ Some w → kind w ≡ kind v → ⊥) → Has (fill m b ps) v
 fill_keeps m [] b v h other = h
@@ -195,7 +115,7 @@ fill_keeps m (p ∷ ps) b v h other =
 
 put_told : (o : Option Value) (b : Block) (v : Value) → Has (put o b) v → Has b v ⊎ (o ≡ Some v)
 put_told None b v h = inl h
-put_told (Some w) b v h = ⊎_elim (λ s. inr (ap Some (s.1 h))) (λ k. inl (k.1 h)) (held v w b)
+put_told (Some w) b v h = ⊎_elim (λ e. inr (ap Some (held_one v w b e h))) (λ n. inl (held_back v w b n h)) (cases_eq (kind w) (kind v))
 
 told_tail : (m : Measure) (p : Piece) (ps : List Piece) (v : Value) → Told m ps v → Told m (p ∷ ps) v
 told_tail m p ps v t = (t.0, among_tail p t.0 ps t.1, t.2)

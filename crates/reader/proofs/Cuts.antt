@@ -2,7 +2,7 @@
 use Rattle.std.proofs.Common.{◌≡◌, ℕ, zero, suc, ◌+◌, ◌<◌, ◌≤◌, Bool, true, false, cond, eqb, List, [], ◌∷◌, length, take, drop, Some, Ok, Err, Option, Result, sym, refl, ap, ◌∙◌, subst, arith}
 use Rattle.std.specs.List.{prefix_len}
 use Rattle.std.proofs.lemmas.List.{length-drop, drop-drop}
-use Rattle.std.proofs.lemmas.Bool.{cond-true, cond-false, ne_eqb, lt-ltb}
+use Rattle.std.proofs.lemmas.Bool.{cond-true, cond-false, ne_eqb}
 use Rattle.std.proofs.lemmas.Bool.Decides.{nat_tests}
 use Rattle.units.specs.declared.Measure.{Measure}
 use Rattle.reader.specs.declared.fault.LineFault.{LineFault}
@@ -10,7 +10,7 @@ use Rattle.reader.specs.declared.part.Letter.{Letter}
 use Rattle.reader.specs.declared.part.Part.{Part}
 use Rattle.reader.specs.declared.rest.Rest.{Rest}
 use Rattle.reader.specs.Words.{numeric, letter_of, formed}
-use Rattle.reader.specs.Lines.{Piece, word, remark, part, inside, closed_at, remark_of, remark_in, word_in, opened, taken, onward, blank, cut, left, Begins}
+use Rattle.reader.specs.Lines.{Piece, word, remark, part, inside, closed_at, remark_in, opened, taken, onward, blank, cut, left, Begins}
 
 pub cut_skip : (m : Measure) (k at : ℕ) (xs : List ℕ) → cut m k at xs ≡ cut m 0 (at + k) (drop k xs)
 cut_skip m zero at [] = refl
@@ -27,13 +27,13 @@ cut_step m at b bs p k h e t =
     ∙ ap (onward p at) (cut_skip m k (suc at) bs ∙ ap (λ a. cut m 0 a (drop k bs)) (omega arith))
 
 pub remark-closed : (at : ℕ) (bs : List ℕ) → prefix_len inside bs < length bs → remark_in at bs ≡ Some (remark (take (prefix_len inside bs) bs) at)
-remark-closed at bs h = ap (λ o. remark_of o at bs) (cond-true _ _ _ (lt-ltb _ _ h))
+remark-closed at bs h = grind (arith, nat_tests)
 
 pub opened-word : (m : Measure) (at b : ℕ) (bs : List ℕ) (l : Letter) → (b ≡ 40 → ⊥) → letter_of b ≡ Some l → formed m l (take (prefix_len numeric bs) bs) ≡ true → opened m at b bs ≡ Some (word l (take (prefix_len numeric bs) bs) at)
-opened-word m at b bs l h e f = cond-false (eqb b 40) _ _ (ne_eqb b 40 h) ∙ ap (λ o. word_in m o at bs) e ∙ cond-true _ _ _ f
+opened-word m at b bs l h e f = grind (arith, nat_tests)
 
 pub taken_word : (b : ℕ) (bs : List ℕ) → (b ≡ 40 → ⊥) → taken b bs ≡ prefix_len numeric bs
-taken_word b bs h = cond-false (eqb b 40) _ _ (ne_eqb b 40 h)
+taken_word b bs h = grind (arith, nat_tests)
 
 -- the part of a line's first bytes, and what is left after it
 abbrev pub Whole : Measure → ℕ → List ℕ → Piece → ℕ → List ℕ → Type 0
@@ -75,9 +75,9 @@ pub cut_blanks : (m : Measure) (at : ℕ) (xs : List ℕ) → cut m 0 at xs ≡ 
 cut_blanks m at [] = refl
 cut_blanks m at (b ∷ bs) = blanks_by m at b bs (blank b) refl (cut_blanks m (suc at) bs)
 
-pub left_start : (m : Measure) (r s : Rest) (k : ℕ) → k ≡ prefix_len blank r.bytes.now → s.bytes.now ≡ drop k r.bytes.now → s.at ≡ r.at + k → left m r ≡ left m s
-left_start m r s k n b a = cut_blanks m r.at r.bytes.now ∙ cc
+pub left_start : (r s : Rest) (k : ℕ) → k ≡ prefix_len blank r.bytes.now → s.bytes.now ≡ drop k r.bytes.now → s.at ≡ r.at + k → s.measure ≡ r.measure → left r ≡ left s
+left_start r s k n b a m = cut_blanks r.measure r.at r.bytes.now ∙ cc
 
-pub begins_start : (m : Measure) (r s : Rest) (b : ℕ) (ys : List ℕ) (o : Result (Part × Rest) LineFault) → left m r ≡ left m s → s.at + length s.bytes.now ≡ r.at + length r.bytes.now → length s.bytes.now ≤ length r.bytes.now → s.bytes.now ≡ b ∷ ys → Begins m s.at (b ∷ ys) o → Begins m r.at r.bytes.now o
-begins_start m r s b ys (Err f) same end le e i = (i.0, same ∙ ap (cut m 0 s.at) e ∙ i.1, i.2)
-begins_start m r s b ys (Ok n) same end le e i = (same ∙ ap (cut m 0 s.at) e ∙ i.0, omega (arith, i.1, end, ap length e), omega (arith, i.2, le, ap length e))
+pub begins_start : (m : Measure) (r s : Rest) (b : ℕ) (ys : List ℕ) (o : Result (Part × Rest) LineFault) → m ≡ s.measure → left r ≡ left s → s.at + length s.bytes.now ≡ r.at + length r.bytes.now → length s.bytes.now ≤ length r.bytes.now → s.bytes.now ≡ b ∷ ys → Begins m s.at (b ∷ ys) o → Begins r.measure r.at r.bytes.now o
+begins_start m r s b ys (Err f) is same end le e i = (i.0, same ∙ ap (cut s.measure 0 s.at) e ∙ ap (λ n. cut n 0 s.at (b ∷ ys)) (sym is) ∙ i.1, i.2)
+begins_start m r s b ys (Ok n) is same end le e i = (same ∙ ap (cut s.measure 0 s.at) e ∙ ap (λ n. cut n 0 s.at (b ∷ ys)) (sym is) ∙ i.0, omega (arith, i.1, end, ap length e), omega (arith, i.2, le, ap length e))

@@ -1,5 +1,5 @@
 -- The first bad part, both ways.
-use Rattle.std.proofs.Common.{◌≡◌, ℕ, Bool, true, false, List, [], ◌∷◌, ◌++◌, Some, None, sym, refl, ap, ◌∙◌, ⊎_elim}
+use Rattle.std.proofs.Common.{◌≡◌, ℕ, Bool, true, false, List, [], ◌∷◌, ◌++◌, Some, None, sym, refl, ap, ◌∙◌, ⊎_elim, arith}
 use Rattle.std.proofs.lemmas.List.{append-nil, append_assoc}
 use Rattle.std.proofs.lemmas.Bool.{cond-true, cond-false, cases_Bool}
 use Rattle.reader.specs.Lines.{Piece}
@@ -11,10 +11,7 @@ abbrev Test : Type 0
 Test = List Piece → Piece → Bool
 
 none_head : (bad : Test) (acc : List Piece) (q : Piece) (qs : List Piece) → first_bad bad acc (q ∷ qs) ≡ None → (bad acc q ≡ false) × (first_bad bad (acc ++ q ∷ []) qs ≡ None)
-none_head bad acc q qs h =
-    ⊎_elim (λ t. absurd (none_some (start_of q) (sym h ∙ cond-true (bad acc q) _ _ t)))
-    (λ f. (f, sym (cond-false (bad acc q) _ _ f) ∙ h))
-    (cases_Bool (bad acc q))
+none_head bad acc q qs h = (grind arith, grind arith)
 
 shift : (bad : Test) (acc : List Piece) (q : Piece) (qs : List Piece) (p : Piece) → bad ((acc ++ q ∷ []) ++ qs) p ≡ bad (acc ++ (q ∷ qs)) p
 shift bad acc q qs p = ap (λ b. bad b p) (append_assoc acc (q ∷ []) qs)

@@ -59,10 +59,7 @@ decimal_from n d e h r =
     (s.0, after n, s.2 ∙ ap (λ b. s.0 ++ b) (sym (take-append-drop (prefix_len digit (body n)) (body n))), s.1, run_leading digit (body n), h, fraction_from (after n) d e, r)
 
 body-first : (b : ℕ) (bs : List ℕ) → digit b ≡ true → (negative (b ∷ bs) ≡ false) × (body (b ∷ bs) ≡ b ∷ bs)
-body-first b bs e =
-    let p : eqb b 45 ≡ false = grind (arith, nat_tests) in
-    let q : eqb b 43 ≡ false = grind (arith, nat_tests) in
-    (p, cond-false (eqb b 45 || eqb b 43) bs (b ∷ bs) (or_from _ _ p q))
+body-first b bs e = (grind (arith, nat_tests), grind (arith, nat_tests))
 
 body_digits : (w f : List ℕ) → AllOf digit w → 1 ≤ length w → (negative (w ++ f) ≡ false) × (body (w ++ f) ≡ w ++ f)
 body_digits [] f r h = absurd (omega arith)

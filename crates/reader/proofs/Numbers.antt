@@ -1,10 +1,9 @@
 -- Numbers of words.
-use Rattle.std.proofs.Common.{◌≡◌, ℕ, zero, suc, ◌+◌, ◌-◌, ◌*◌, ◌^◌, ◌<◌, ◌≤◌, Bool, leb, List, [], ◌∷◌, length, get_or, drop, Some, None, sym, ap, ◌∙◌, mul-le-mul_left, pow-suc, arith}
+use Rattle.std.proofs.Common.{◌≡◌, ℕ, zero, suc, ◌+◌, ◌-◌, ◌*◌, ◌^◌, ◌<◌, ◌≤◌, List, [], ◌∷◌, length, get_or, drop, Some, None, mul-le-mul_left, pow-suc, arith}
 use Rattle.std.proofs.lemmas.List.{at_drop_more}
-use Rattle.std.proofs.lemmas.Bool.{lt-leb, le-leb, cond-true, cond-false}
 use Rattle.std.proofs.lemmas.Bool.Decides.{nat_tests}
 use Rattle.units.specs.declared.Measure.{Measure}
-use Rattle.reader.specs.Words.{negative, whole, fraction, after, onto, upto, limited, scaled, units_of}
+use Rattle.reader.specs.Words.{whole, fraction, after, onto, upto, units_of}
 use Rattle.units.specs.Measures.{places}
 
 pub onto-more : (n : ℕ) (xs : List ℕ) (i : ℕ) → i < length xs → onto n (drop i xs) ≡ onto (n * 10 + (get_or xs i 0 - 48)) (drop (i + 1) xs)
@@ -14,44 +13,25 @@ pub onto_grows : (n : ℕ) (xs : List ℕ) → n ≤ onto n xs
 onto_grows n [] = omega arith
 onto_grows n (x ∷ xs) = omega (arith, onto_grows (n * 10 + (x - 48)) xs)
 
-pub upto_some : (most n : ℕ) → n ≤ most → Some n ≡ upto most n
-upto_some most n h = sym (cond-true (leb n most) (Some n) None (le-leb n most h))
-
-pub upto-none : (most n : ℕ) → most < n → None ≡ upto most n
-upto-none most n h = sym (cond-false (leb n most) (Some n) None (lt-leb n most h))
-
 pub past_most : (n most start i d : ℕ) (xs : List ℕ) → i < length xs → onto n (drop i xs) ≡ onto start xs → d ≡ get_or xs i 0 - 48 → most < n * 10 + d → None ≡ upto most (onto start xs)
 past_most n most start i d xs h inv e lt =
     let here : onto n (drop i xs) ≡ onto (n * 10 + (get_or xs i 0 - 48)) (drop (i + 1) xs) = onto-more n xs i h in
     let grows : n * 10 + (get_or xs i 0 - 48) ≤ onto (n * 10 + (get_or xs i 0 - 48)) (drop (i + 1) xs) = onto_grows (n * 10 + (get_or xs i 0 - 48)) (drop (i + 1) xs) in
-    upto-none most (onto start xs) (omega arith)
-
-pub upto_past : (most n : ℕ) → upto most n ≡ None → most < n
-upto_past most n h = grind (arith, nat_tests)
-
-pub upto_is : (most n v : ℕ) → Some v ≡ upto most n → v ≡ n
-upto_is most n v h = grind (arith, nat_tests)
+    grind (arith, nat_tests)
 
 pub pow_pos : (k : ℕ) → 0 < 10 ^ k
 pow_pos zero = omega arith
 pow_pos (suc k) = rw pow-suc (omega (arith, pow_pos k))
-
-pub limited-none : (s : Bool) (n : ℕ) → 40000000 < n → limited s n ≡ None
-limited-none s n h = cond-false (leb n 40000000) _ None (lt-leb n 40000000 h)
 
 -- a number whose digits pass the limit has no units
 pub too_large : (m : Measure) (n d : List ℕ) → fraction (after n) ≡ Some d → 40000000 < onto (onto 0 (whole n)) d → None ≡ units_of m n
 too_large m n d e h =
     let p : 0 < 10 ^ (places m - length d) = pow_pos (places m - length d) in
     let g : onto (onto 0 (whole n)) d * 1 ≤ onto (onto 0 (whole n)) d * 10 ^ (places m - length d) = mul-le-mul_left (onto (onto 0 (whole n)) d) p in
-    sym (ap (scaled m (negative n) (whole n)) e ∙ limited-none (negative n) (onto (onto 0 (whole n)) d * 10 ^ (places m - length d)) (omega arith))
+    rw e (grind (arith, nat_tests))
 
 pub whole_too_large : (m : Measure) (n w d : List ℕ) → w ≡ whole n → fraction (after n) ≡ Some d → None ≡ upto 40000000 (onto 0 w) → None ≡ units_of m n
-whole_too_large m n w d p e h =
-    let h' : upto 40000000 (onto 0 (whole n)) ≡ None = ap (λ v. upto 40000000 (onto 0 v)) (sym p) ∙ sym h in
-    too_large m n d e (omega (arith, upto_past 40000000 (onto 0 (whole n)) h', onto_grows (onto 0 (whole n)) d))
+whole_too_large m n w d p e h = too_large m n d e (grind (arith, nat_tests, onto_grows (onto 0 w) d))
 
 pub digits_too_large : (m : Measure) (n w d : List ℕ) (v : ℕ) → w ≡ whole n → fraction (after n) ≡ Some d → Some v ≡ upto 40000000 (onto 0 w) → None ≡ upto 40000000 (onto v d) → None ≡ units_of m n
-digits_too_large m n w d v p e s h =
-    let v' : v ≡ onto 0 (whole n) = upto_is 40000000 (onto 0 w) v s ∙ ap (onto 0) p in
-    too_large m n d e (omega (arith, upto_past 40000000 (onto (onto 0 (whole n)) d) (ap (λ u. upto 40000000 (onto u d)) (sym v') ∙ sym h)))
+digits_too_large m n w d v p e s h = too_large m n d e (grind (arith, nat_tests))

@@ -1,6 +1,6 @@
 -- The value of a well formed word is what it says.
 use Rattle.std.proofs.Common.{◌≡◌, ℕ, ◌+◌, ◌-◌, ◌*◌, ◌^◌, ◌≤◌, Bool, List, [], ◌∷◌, ◌++◌, length, ℤ, Some, sym, refl, ap, ◌∙◌, subst, arith}
-use Rattle.std.proofs.lemmas.Bool.{cond-true, and_from, le-leb}
+use Rattle.std.proofs.lemmas.Bool.{cond-true, le-leb}
 use Rattle.std.proofs.lemmas.Bool.Decides.{nat_tests}
 use Rattle.std.specs.Option.{option_map}
 use Rattle.units.specs.declared.Measure.{Measure}
@@ -64,7 +64,7 @@ says_from m M n v f e =
     subst (Says m M n) (ap value.Auxiliary (sym r.0) ∙ u.2) (auxiliary n r.1)
 
 within_is : (a b x : ℕ) → a ≤ x → x ≤ b → within a b x ≡ Some x
-within_is a b x p q = cond-true _ _ _ (and_from _ _ (le-leb a x p) (le-leb x b q))
+within_is a b x p q = grind (arith, nat_tests)
 
 says_to : (m : Measure) (l : Letter) (n : List ℕ) (v : Value) → Says m l n v → value_of m l n ≡ Some v
 says_to m _ _ _ (number n p q) = ap (option_map value.Number) (within_is 1 9999 (onto 0 n) p q)

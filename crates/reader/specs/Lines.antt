@@ -66,22 +66,18 @@ abbrev pub shown : Part → Piece
 shown (Word w at) = word w.letter w.number.now at
 shown (Remark t at) = remark t.now at
 
-abbrev pub left : Measure → Rest → Cut
-left m r = cut m 0 r.at r.bytes.now
+abbrev pub left : Rest → Cut
+left r = cut r.measure 0 r.at r.bytes.now
 
 -- the first part of what stands in a line from the byte at on, or the fault that there is none
 abbrev pub Begins : Measure → ℕ → List ℕ → Result (Part × Rest) LineFault → Type 0
 Begins m at xs (Err e) = (to : ℕ) × (cut m 0 at xs ≡ broken to) × (e ≡ Form to)
-Begins m at xs (Ok n) = (cut m 0 at xs ≡ part (shown n.0) (left m n.1)) × (n.1.at + length n.1.bytes.now ≡ at + length xs) × (length n.1.bytes.now < length xs)
-
--- the same in any measure, as for a remark
-abbrev pub BeginsAny : ℕ → List ℕ → Result (Part × Rest) LineFault → Type 0
-BeginsAny at xs r = (m : Measure) → Begins m at xs r
+Begins m at xs (Ok n) = (cut m 0 at xs ≡ part (shown n.0) (left n.1)) × (n.1.at + length n.1.bytes.now ≡ at + length xs) × (length n.1.bytes.now < length xs)
 
 -- the next part of what is left of a line, or its end
-abbrev pub Next : Measure → Rest → Option (Result (Part × Rest) LineFault) → Type 0
-Next m r None = left m r ≡ end
-Next m r (Some o) = Begins m r.at r.bytes.now o
+abbrev pub Next : Rest → Option (Result (Part × Rest) LineFault) → Type 0
+Next r None = left r ≡ end
+Next r (Some o) = Begins r.measure r.at r.bytes.now o
 
 -- the well formed parts of a line, and the byte where the next one is not
 abbrev pub pieces : Cut → List Piece

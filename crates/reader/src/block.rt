@@ -3,28 +3,28 @@ ghost use Rattle.std.specs.Result.{result_ok};
 ghost use Rattle.reader.specs.Words.{motion_code, offset_code, way_code, preparatory, group_of, ends_by};
 ghost use Rattle.reader.specs.Questions.{holding};
 
-/// How an X is run.
+/// How an X is run, each with the number of its G word.
 #[derive(Clone, Copy, PartialEq, Eq, Debug)]
 pub enum Motion {
-    Rapid,
-    Feed,
+    Rapid = 0,
+    Feed = 1,
 }
 
-/// Which of the program offsets is added to the shift.
+/// Which of the program offsets is added to the shift, each with the number of its G word.
 #[derive(Clone, Copy, PartialEq, Eq, Debug)]
 pub enum OffsetChoice {
-    Without,
-    First,
-    Second,
-    Third,
-    Fourth,
+    Without = 53,
+    First = 54,
+    Second = 55,
+    Third = 56,
+    Fourth = 57,
 }
 
-/// What an X is reckoned from.
+/// What an X is reckoned from, each with the number of its G word.
 #[derive(Clone, Copy, PartialEq, Eq, Debug)]
 pub enum Way {
-    Absolute,
-    Relative,
+    Absolute = 90,
+    Relative = 91,
 }
 
 // What a G word says, by its group.
@@ -93,10 +93,7 @@ impl From<Motion> for u8 {
     ghost from_gives = { λ motion number. number ≡ motion_code motion };
 
     fn from(motion: Motion) -> u8 {
-        match motion {
-            Motion::Rapid => 0,
-            Motion::Feed => 1,
-        }
+        motion as u8
     }
 }
 
@@ -105,13 +102,7 @@ impl From<OffsetChoice> for u8 {
     ghost from_gives = { λ offset number. number ≡ offset_code offset };
 
     fn from(offset: OffsetChoice) -> u8 {
-        match offset {
-            OffsetChoice::Without => 53,
-            OffsetChoice::First => 54,
-            OffsetChoice::Second => 55,
-            OffsetChoice::Third => 56,
-            OffsetChoice::Fourth => 57,
-        }
+        offset as u8
     }
 }
 
@@ -120,10 +111,7 @@ impl From<Way> for u8 {
     ghost from_gives = { λ way number. number ≡ way_code way };
 
     fn from(way: Way) -> u8 {
-        match way {
-            Way::Absolute => 90,
-            Way::Relative => 91,
-        }
+        way as u8
     }
 }
 

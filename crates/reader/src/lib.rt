@@ -49,14 +49,14 @@ fn judge(line: &[u8], measure: Measure, blocks: usize) -> Result<Option<Block>, 
     if blocks == 0 && line.starts_with(b"%") {
         return Ok(None);
     }
-    read_words(Rest::of(line), measure)
+    read_words(Rest::of(line, measure))
 }
 
 // Form, order and range are each asked of the whole line before the next.
-fn read_words(line: Rest, measure: Measure) -> Result<Option<Block>, LineFault>
-    ensures { result ≡ judged measure (left measure line.entry) }
+fn read_words(line: Rest) -> Result<Option<Block>, LineFault>
+    ensures { result ≡ judged line.entry.measure (left line.entry) }
 {
-    let parts = parts_of(line, measure)?;
+    let parts = parts_of(line)?;
     in_order(&parts)?;
-    block_of(&parts, measure)
+    block_of(&parts, line.measure)
 }

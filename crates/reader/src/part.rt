@@ -3,8 +3,7 @@ ghost use Rattle.std.specs.List.{prefix_len};
 ghost use Rattle.std.specs.Result.{result_ok};
 ghost use Rattle.reader.specs.Words.{numeric, letter_of, formed};
 ghost use Rattle.reader.specs.Reads.{Stops};
-ghost use Rattle.units.specs.declared.Measure.{Measure};
-ghost use Rattle.reader.specs.Lines.{blank, closed_at, left, Begins, BeginsAny, Next, Filled};
+ghost use Rattle.reader.specs.Lines.{blank, closed_at, left, Begins, Next, Filled};
 
 use crate::block::Unknown;
 use crate::fault::LineFault;
@@ -102,7 +101,7 @@ fn remark_len(tail: &[u8]) -> Option<usize>
 // The remark whose `(` is the byte at `at`, with `tail` after it.
 fn remark_at<'a>(at: usize, tail: Rest<'a>) -> Result<(Part<'a>, Rest<'a>), LineFault>
     requires { tail.at ≡ at + 1 }
-    ensures { BeginsAny at (40 ∷ tail.entry.bytes.now) result }
+    ensures { Begins tail.entry.measure at (40 ∷ tail.entry.bytes.now) result }
 {
     let n = remark_len(tail.bytes).ok_or(LineFault::Form { at })?;
     let (text, closed) = tail.split_at(n);
@@ -111,23 +110,18 @@ fn remark_at<'a>(at: usize, tail: Rest<'a>) -> Result<(Part<'a>, Rest<'a>), Line
 }
 
 // The word that starts at `at` with the byte `first`, with `tail` after it.
-fn word_at<'a>(
-    at: usize,
-    first: u8,
-    tail: Rest<'a>,
-    measure: Measure,
-) -> Result<(Part<'a>, Rest<'a>), LineFault>
+fn word_at<'a>(at: usize, first: u8, tail: Rest<'a>) -> Result<(Part<'a>, Rest<'a>), LineFault>
     requires place { tail.at ≡ at + 1 }
     requires no_blank { first ≢ 32 }
     requires no_remark { first ≢ 40 }
-    ensures { Begins measure at (first ∷ tail.entry.bytes.now) result }
+    ensures { Begins tail.entry.measure at (first ∷ tail.entry.bytes.now) result }
 {
     let Ok(letter) = Letter::try_from(first) else {
         return Err(LineFault::Form { at });
     };
     let (number, after) = tail.split_at(number_len(tail.bytes));
     let word = Word { letter, number };
-    if !word.is_well_formed(measure) {
+    if !word.is_well_formed(tail.measure) {
         return Err(LineFault::Form { at });
     }
     Ok((Part::Word { word, at }, after))
@@ -136,7 +130,7 @@ fn word_at<'a>(
 impl<'a> Rest<'a> {
     // What is left after the blanks in front.
     fn after_blanks(self) -> Rest<'a>
-        ensures same { (m : Measure) → left m self.entry ≡ left m result }
+        ensures same { left self.entry ≡ left result }
         ensures start { Stops blank result.bytes.now }
         ensures end { result.at + length result.bytes.now ≡ self.entry.at + length self.entry.bytes.now }
         ensures bound { length result.bytes.now ≤ length self.entry.bytes.now }
@@ -146,28 +140,25 @@ impl<'a> Rest<'a> {
     }
 
     // The first part, and what is left after it; none where only blanks are left.
-    fn next_part(self, measure: Measure) -> Option<Result<(Part<'a>, Rest<'a>), LineFault>>
-        ensures { Next measure self.entry result }
+    fn next_part(self) -> Option<Result<(Part<'a>, Rest<'a>), LineFault>>
+        ensures { Next self.entry result }
     {
         let start = self.after_blanks();
         let (first, tail) = start.split_first()?;
         match first {
             b'(' => Some(remark_at(start.at, tail)),
-            _ => Some(word_at(start.at, first, tail, measure)),
+            _ => Some(word_at(start.at, first, tail)),
         }
     }
 }
 
 // The parts of a line.
-pub(crate) fn parts_of<'a>(
-    line: Rest<'a>,
-    measure: Measure,
-) -> Result<ArrayVec<Part<'a>, MOST_BYTES>, LineFault>
-    ensures { Filled (left measure line.entry) result }
+pub(crate) fn parts_of<'a>(line: Rest<'a>) -> Result<ArrayVec<Part<'a>, MOST_BYTES>, LineFault>
+    ensures { Filled (left line.entry) result }
 {
     let mut rest = line;
     let mut parts = ArrayVec::new();
-    while let Some(begun) = rest.next_part(measure) {
+    while let Some(begun) = rest.next_part() {
         let (part, after) = begun?;
         parts.push(part);
         rest = after;

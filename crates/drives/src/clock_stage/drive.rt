@@ -5,7 +5,7 @@ ghost use Rattle.std.proofs.Common.{rules, arith};
 
 use crate::clock_stage::{ClockStage, FARTHEST};
 use crate::direction::Direction;
-use crate::drive::{Drive, accept};
+use crate::drive::Drive;
 use crate::fault::Refusal;
 
 impl Drive for ClockStage {
@@ -18,7 +18,7 @@ impl Drive for ClockStage {
         ensures after { stage_of self.new ≡ pulsed direction (stage_of self.old) }
         ensures direction { self.new.direction ≡ turned result direction self.old.direction }
     {
-        accept(self.ready(), self.has_room(direction))?;
+        self.check_pulse(direction)?;
         self.direction = direction;
         match direction {
             Direction::Forward => self.count += 1,

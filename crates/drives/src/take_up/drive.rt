@@ -5,7 +5,7 @@ ghost use Rattle.drives.specs.TakeUp.{layered};
 ghost use Rattle.std.proofs.Common.{rules};
 
 use crate::direction::Direction;
-use crate::drive::{Drive, accept};
+use crate::drive::Drive;
 use crate::fault::Refusal;
 use crate::send::send;
 use crate::take_up::TakeUp;
@@ -35,7 +35,7 @@ impl<D: Drive> Drive for TakeUp<D> {
         ensures flank { self.new.flank ≡ turned result direction self.old.flank }
         ensures play { self.new.play ≡ self.old.play }
     {
-        accept(self.ready(), self.has_room(direction))?;
+        self.check_pulse(direction)?;
         let pulses = self.passed(direction);
         self.flank = direction;
         send(&mut self.below, direction, pulses)
