@@ -4,3 +4,4 @@ pub mod Passing
 pub mod Taking
 pub mod Moved
 pub mod OnTick
+pub mod Data
