@@ -5,3 +5,7 @@ pub mod Taking
 pub mod Moved
 pub mod OnTick
 pub mod Data
+pub mod Refusing
+pub mod Plans
+pub mod Numbers
+pub mod Ordered
