@@ -9,3 +9,4 @@ pub mod Refusing
 pub mod Plans
 pub mod Numbers
 pub mod Ordered
+pub mod Invariant
