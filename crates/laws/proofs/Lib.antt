@@ -10,3 +10,5 @@ pub mod Plans
 pub mod Numbers
 pub mod Ordered
 pub mod Invariant
+pub mod Offsets
+pub mod Shifts
