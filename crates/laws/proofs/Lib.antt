@@ -12,3 +12,5 @@ pub mod Ordered
 pub mod Invariant
 pub mod Offsets
 pub mod Shifts
+pub mod Brakes
+pub mod Stops
