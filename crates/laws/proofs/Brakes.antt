@@ -1,4 +1,4 @@
--- What leaves a braking axis braking, and what a braking tick does to it.
+-- What an accepted stop does, what leaves a braking axis braking, and what a braking tick does to it.
 use Rattle.std.proofs.Common.{◌≡◌, ◌-◌, ℤ, Bool, true, false, cond, not, eqb, Some, None, Ok, Err, Option, Result, sym, refl, ap, ◌∙◌, arith}
 use Rattle.std.proofs.lemmas.Bool.{false≢true}
 use Rattle.drives.specs.Meaning.{Meaning}
@@ -15,11 +15,37 @@ use Rattle.states.specs.Moves.{braked_in}
 use Rattle.states.specs.Entry.{cleared, with_data, data_refusal, some_data, unless}
 use Rattle.states.proofs.Asked.{Yes, accepted}
 use Rattle.orders.specs.declared.plan.Plan.{Plan}
-use Rattle.orders.specs.Questions.{order_questions, plan_for, verdict}
-use Rattle.orders.specs.Orders.{order_fault, left}
+use Rattle.orders.specs.declared.plan.Plan.TheVariants.{Halt}
+use Rattle.orders.specs.Modes.{stops}
+use Rattle.orders.specs.Effects.{carried_out}
+use Rattle.orders.specs.Questions.{order_questions, standing_plan, plan_for, verdict}
+use Rattle.orders.specs.Orders.{order_fault, answered, left}
 use Rattle.ticks.specs.Moving.{stopped_short}
 use Rattle.laws.specs.Acts.{Act, entering, deleting, ordering, levelling, ticking, act_step, is_tick}
 use Rattle.laws.specs.Kept.{KeptBy}
+
+-- the plan of a stop
+halts : (b : Bool) (x : Plan) → b ≡ true → cond b Halt x ≡ Halt
+halts true x e = refl
+halts false x e = absurd (false≢true e)
+
+-- an accepted stop does nothing else
+plan_halts : (mode : Option Mode) (o : Order) (p : Programs) (m : Meaning) (s : Status) → stops o.command ≡ true
+    → Yes (order_questions mode o p m s) → plan_for mode o m s ≡ Halt
+plan_halts None o p m s e y = absurd (false≢true y.0)
+plan_halts (Some mode) o p m s e y = halts (stops o.command) (standing_plan mode o m s.machine s.work) e
+
+-- an accepted stop brakes a move, and holds a program without one
+pub stop_phase : (v : Result Plan Cause) (o : Order) (p : Programs) (a : AxisState) → verdict o p a.drive a.status ≡ v
+    → stops o.command ≡ true → answered o a.status.work.phase v ≡ Ok tt
+    → (left o a.drive a.status v).work.phase ≡ stopped a.status.work.phase
+stop_phase (Ok plan) o p a q c e =
+    let m = a.drive in
+    let s = a.status in
+    let y = accepted (order_questions (mode_of o.mode) o p m s) (plan_for (mode_of o.mode) o m s) plan q in
+    let i : plan ≡ Halt = sym y.1 ∙ plan_halts (mode_of o.mode) o p m s c y.0 in
+    ap (λ (x : Plan). (carried_out o.mode x m s.machine s.work).phase) i
+stop_phase (Err cause) o p a q c e = cc
 
 -- while it brakes, entry and deletion are refused
 busy : (b : Bool) (o : Option Cause) (s next : Status) → b ≡ false → unless (cond b o (Some DataWhileBusy)) s next ≡ s

@@ -1,70 +1,19 @@
 -- Entering machine data, deleting them, and levels keep what an axis keeps.
-use Rattle.std.proofs.Common.{◌≡◌, Bool, true, false, cond, ◌&&◌, ℤ, pos, ◌-ℤ◌, Some, None, Option, ℕ, refl, arith, rules, Decides}
+use Rattle.std.proofs.Common.{◌≡◌, Bool, true, false, cond, ℤ, pos, ◌-ℤ◌, Some, None, Option, ℕ, refl, arith}
 use Rattle.std.proofs.lemmas.Int.{ints}
 use Rattle.std.proofs.lemmas.Bool.{false≢true}
 use Rattle.drives.specs.Meaning.{Meaning, levelled}
 use Rattle.motion.specs.declared.raw.RawData.{RawData}
-use Rattle.motion.specs.declared.fault.DataFault.{DataFault}
-use Rattle.motion.specs.declared.fault.DataFault.TheVariants.{OutOfRange, Disagree}
-use Rattle.motion.specs.Data.{Frequencies, Signal, Gear, Limits, Offsets, InRange, Agree}
-use Rattle.motion.specs.Questions.{frequencies, signal, gear, limits, offsets, in_range, agree, refusal}
-use Rattle.motion.proofs.Questions.{limits_decides, offsets_decides}
+use Rattle.motion.specs.Data.{InRange, Agree}
 use Rattle.motion.specs.Laws.{Near}
 use Rattle.states.specs.declared.fault.Cause.{Cause}
 use Rattle.states.specs.declared.fault.Cause.TheVariants.{DataWhileBusy}
 use Rattle.states.specs.State.{Travel, Phase, standing, moving, braking, held, between, Work, AxisState, stands}
-use Rattle.states.specs.Entry.{cleared, with_data, data_cause, data_refusal, enter_no, delete_no, unless}
+use Rattle.states.specs.Entry.{cleared, with_data, data_refusal, enter_no, delete_no, unless}
 use Rattle.ticks.specs.Ticks.{with_status}
 use Rattle.laws.specs.Acts.{levels_step, enter_axis, delete_axis}
 use Rattle.laws.specs.Kept.{KeptIn, OnWay, KeptWith, KeptBy, Kept}
-
--- the ranges, group by group
-frequencies_fit : (d : RawData) → Decides (frequencies d) (Frequencies d)
-frequencies_fit d = search rules
-
-signal_fits : (d : RawData) → Decides (signal d) (Signal d)
-signal_fits d = search rules
-
-gear_fits : (d : RawData) → Decides (gear d) (Gear d)
-gear_fits d = search rules
-
--- five tests that hold, with what each decides
-five : (a b c d e : Bool) (A B C D E : Type 0) → Decides a A → Decides b B → Decides c C → Decides d D → Decides e E
-    → (a && b && c && d && e) ≡ true → A × B × C × D × E
-five true true true true true A B C D E p q r s t h = (p.0 refl, q.0 refl, r.0 refl, s.0 refl, t.0 refl)
-five true true true true false A B C D E p q r s t h = cc
-five true true true false e A B C D E p q r s t h = cc
-five true true false d e A B C D E p q r s t h = cc
-five true false c d e A B C D E p q r s t h = cc
-five false b c d e A B C D E p q r s t h = cc
-
--- data that pass the range tests are in range
-ranges_by : (d : RawData) → in_range d ≡ true → InRange d
-ranges_by d h =
-    five (frequencies d) (signal d) (gear d) (limits d) (offsets d) (Frequencies d) (Signal d) (Gear d) (Limits d) (Offsets d)
-    (frequencies_fit d) (signal_fits d) (gear_fits d) (limits_decides d) (offsets_decides d) h
-
--- data that pass the agreement tests agree
-agree_decides : (d : RawData) → Decides (agree d) (Agree d)
-agree_decides d = search rules
-
--- no fault of the data is no cause of the axis
-no_cause : (o : Option DataFault) → data_cause o ≡ None → o ≡ None
-no_cause None e = refl
-no_cause (Some f) e = cc
-
--- data without a fault pass both tests
-both_yes : (a b : Bool) → cond a (cond b None (Some Disagree)) (Some OutOfRange) ≡ None → (a ≡ true) × (b ≡ true)
-both_yes true true e = (refl, refl)
-both_yes true false e = cc
-both_yes false b e = cc
-
--- data that are not refused are in range and agree
-unrefused : (d : RawData) → data_refusal d ≡ None → InRange d × Agree d
-unfolding data_refusal
-unrefused d e =
-    let y = both_yes (in_range d) (agree d) (no_cause (refusal d) e) in
-    (ranges_by d y.0, (agree_decides d).0 y.1)
+use Rattle.laws.proofs.Ranges.{unrefused}
 
 -- an entry that is not refused has data that are not
 entry_yes : (b : Bool) (o : Option Cause) → cond b o (Some DataWhileBusy) ≡ None → o ≡ None
@@ -97,6 +46,7 @@ enter_by None d a e k = record {
 }
 enter_by (Some c) d a e k = k
 
+-- entering machine data
 pub enter_keeps : (d : RawData) (a : AxisState) → Kept a → Kept (enter_axis d a)
 enter_keeps d a k = enter_by (enter_no d a.status) d a refl k
 
@@ -106,6 +56,7 @@ delete_by : (o : Option Cause) (a : AxisState) → Kept a
 delete_by None a k = record { drive = k.drive; holds = (refl, refl); shown = λ n. (refl, refl) }
 delete_by (Some c) a k = k
 
+-- deleting them
 pub delete_keeps : (a : AxisState) → Kept a → Kept (delete_axis a)
 delete_keeps a k = delete_by (delete_no a.status) a k
 
@@ -121,6 +72,7 @@ level_on d m zero r ready t o = record {
   start = o.start;
 }
 
+-- whatever the axis is doing
 level_in : (p : Phase) (d : RawData) (m : Meaning) (zero : ℤ) (r ready : Bool) → KeptIn p d m zero r
     → KeptIn p d (levelled ready m) zero r
 level_in standing d m zero r ready k = tt
@@ -130,6 +82,7 @@ level_in (held c None) d m zero r ready k = tt
 level_in (held c (Some x)) d m zero r ready k = record { ends = k.ends; limits = k.limits }
 level_in (between c) d m zero r ready k = tt
 
+-- with machine data or without
 level_by : (o : Option RawData) (m : Meaning) (w : Work) (ready : Bool) → KeptBy o m w → KeptBy o (levelled ready m) w
 level_by None m w ready k = k
 level_by (Some d) m w ready k = record {
@@ -140,6 +93,7 @@ level_by (Some d) m w ready k = record {
   doing = level_in w.phase d m w.zero w.referenced ready k.doing;
 }
 
+-- levels
 pub levels_keeps : (begin end ready : Bool) (a : AxisState) → Kept a → Kept (levels_step begin end ready a)
 levels_keeps begin end ready a k = record {
   drive = record { floor = k.drive.floor; low = k.drive.low; high = k.drive.high; ceiling = k.drive.ceiling };

@@ -31,8 +31,10 @@ new_keeps m s = record {
   shown = λ n. (refl, refl);
 }
 
+-- the invariant
 pub invariant : Invariant
 invariant m s es = run_keeps es (new_axis m) (new_keeps m s)
 
+-- no pulse is refused
 pub no_pulse_refused : NoPulseRefused
 no_pulse_refused m s es = taken_in (after (new_axis m) es) (invariant m s es)

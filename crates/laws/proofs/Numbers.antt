@@ -18,6 +18,7 @@ at_row : (b : Bool) (n x : ℕ) (r mode : Mode) (rest : Option Mode) → eqb n x
 at_row true n x r mode rest e h t f = let i : r ≡ mode = cc in let j = eqb-true n x e in sym (ap mode_number i) ∙ h ∙ sym j
 at_row false n x r mode rest e h t f = t f
 
+-- what a table answers
 found_number : (n : ℕ) (rows : List (ℕ × Mode)) (mode : Mode) → Numbered rows → find_mode n rows ≡ Some mode → mode_number mode ≡ n
 found_number n [] mode t e = cc
 found_number n (row ∷ rows) mode t e =
@@ -32,5 +33,6 @@ program_number : (k : Pace) → (eqb (mode_number (Program k)) 8 || eqb (mode_nu
 program_number Continuous = refl
 program_number SingleBlock = refl
 
+-- a number of such a mode
 pub program_mode : (n : ℕ) (k : Pace) → mode_of n ≡ Some (Program k) → (eqb n 8 || eqb n 9) ≡ true
 program_mode n k e = subst (λ (x : ℕ). (eqb x 8 || eqb x 9) ≡ true) (number_of n (Program k) e) (program_number k)

@@ -21,13 +21,15 @@ use Rattle.orders.specs.Questions.{resume_plan, mode_plan, bare_plan, standing_p
 use Rattle.orders.specs.Effects.{halted, carried_out}
 use Rattle.laws.proofs.Numbers.{number_of}
 
--- Z and T after a mode's number with a double word
+-- Z after a mode's number with a double word
 abbrev pub offset_at : ℕ → ℤ → ℤ → ℤ
 offset_at n x z = cond (eqb n 12) x (cond (eqb n 13) (z +ℤ x) (cond (eqb n 14) (pos 0) z))
 
+-- T likewise
 abbrev pub tool_at : ℕ → ℤ → ℤ → ℤ
 tool_at n x t = cond (eqb n 15) x (cond (eqb n 16) (pos 0) t)
 
+-- both are so
 abbrev pub Shifts : ℕ → ℤ → Work → Work → Type 0
 Shifts n x w v = (v.offset ≡ offset_at n x w.offset) × (v.tool ≡ tool_at n x w.tool)
 
@@ -78,7 +80,7 @@ bare_shifts ClearTool n x m w b = absurd (false≢true b)
 bare_shifts ClearFault n x m w b = (refl, refl)
 
 module _ (o : Order) (m : Meaning) (d : RawData) (w : Work) where
-  -- a program that begins or goes on
+  -- a program that goes on
   resume_same : (ph : Phase) → Same w (carried_out o.mode (resume_plan d m ph w.zero) m (Some d) w)
   resume_same standing = (refl, refl)
   resume_same (moving t) = (refl, refl)
@@ -87,6 +89,7 @@ module _ (o : Order) (m : Meaning) (d : RawData) (w : Work) where
   resume_same (held c (Some x)) = (refl, refl)
   resume_same (between c) = (refl, refl)
 
+  -- one that goes on or begins
   program_same : (b : Bool)
       → Same w (carried_out o.mode (cond b (resume_plan d m w.phase w.zero) (Begin o.byte)) m (Some d) w)
   program_same true = resume_same w.phase

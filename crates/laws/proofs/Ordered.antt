@@ -121,5 +121,6 @@ order_by (Err cause) o p a e k =
     let h = refused_holds (order_fault o s.work.phase cause) s.machine a.drive s.work (k.holds, k.shown) in
     record { drive = k.drive; holds = h.0; shown = h.1 }
 
+-- every order
 pub order_keeps : (o : Order) (p : Programs) (a : AxisState) → Kept a → Kept (order_axis o p a)
 order_keeps o p a k = order_by (verdict o p a.drive a.status) o p a refl k

@@ -46,19 +46,21 @@ module _ (mode : ℕ) (d : RawData) (m : Meaning) (w : Work) (k : KeptWith d m w
     λ n. (refl, refl),
   )
 
-  -- another Z, another T
+  -- another Z
   pub offset_holds : (z : ℤ) → Holds (Some d) m (with_offset z (taken mode w))
   offset_holds z =
       (record { range = k.range; agree = k.agree; drift = k.drift; limits = k.limits; doing = tt }, λ n. (refl, refl))
 
+  -- another T
   pub tool_holds : (t : ℤ) → Holds (Some d) m (with_tool t (taken mode w))
   tool_holds t =
       (record { range = k.range; agree = k.agree; drift = k.drift; limits = k.limits; doing = tt }, λ n. (refl, refl))
 
-  -- the axis without its program, and with it
+  -- the axis without its program
   taken_with : KeptWith d m (taken mode w)
   taken_with = record { range = k.range; agree = k.agree; drift = k.drift; limits = k.limits; doing = tt }
 
+  -- with it
   over_with : KeptWith d m (taken_over mode w)
   over_with = record { range = k.range; agree = k.agree; drift = k.drift; limits = k.limits; doing = k.doing }
 

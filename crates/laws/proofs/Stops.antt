@@ -1,22 +1,13 @@
 -- A braking axis comes to stand, and so does an axis after an accepted stop.
-use Rattle.std.proofs.Common.{◌≡◌, ℕ, ◌+◌, ◌-◌, ◌≤◌, max, Bool, true, false, cond, eqb, List, [], ◌∷◌, Some, None, Ok, Err, Option, Result, sym, refl, ap, ◌∙◌, subst, arith}
-use Rattle.std.proofs.lemmas.Bool.{false≢true, eqb-false}
+use Rattle.std.proofs.Common.{◌≡◌, ℕ, ◌+◌, ◌-◌, ◌≤◌, max, Bool, true, false, eqb, List, [], ◌∷◌, Some, None, Option, sym, refl, ap, ◌∙◌, subst, arith}
+use Rattle.std.proofs.lemmas.Bool.{eqb-false}
 use Rattle.drives.specs.Meaning.{Meaning}
 use Rattle.motion.specs.Travel.{Going}
 use Rattle.store.specs.Programs.{Programs}
-use Rattle.states.specs.declared.order.Order.{Order}
 use Rattle.states.specs.declared.fault.Cause.{Cause}
-use Rattle.states.specs.declared.mode.Mode.{Mode}
-use Rattle.states.specs.Mode.{mode_of}
-use Rattle.states.specs.State.{Travel, Phase, standing, moving, braking, held, between, Status, AxisState, with_work, stands, stopped}
+use Rattle.states.specs.State.{Travel, Phase, standing, moving, braking, held, between, AxisState, with_work, stands, stopped}
 use Rattle.states.specs.Moves.{braked_in}
-use Rattle.states.proofs.Asked.{Yes, accepted}
-use Rattle.orders.specs.declared.plan.Plan.{Plan}
-use Rattle.orders.specs.declared.plan.Plan.TheVariants.{Halt}
-use Rattle.orders.specs.Modes.{stops}
-use Rattle.orders.specs.Questions.{order_questions, standing_plan, plan_for, verdict}
-use Rattle.orders.specs.Effects.{carried_out}
-use Rattle.orders.specs.Orders.{answered, left}
+use Rattle.orders.specs.Questions.{verdict}
 use Rattle.ticks.specs.Moving.{with_going, slowed, sent_on}
 use Rattle.ticks.specs.Ticks.{trouble_of, unless_trouble, slow_step, tick_at, tick_step}
 use Rattle.laws.specs.Acts.{Act, entering, deleting, ordering, levelling, ticking, Event, act_step, order_axis, is_tick, step, ticks}
@@ -24,7 +15,7 @@ use Rattle.laws.specs.Kept.{Kept}
 use Rattle.laws.specs.Laws.{ramp_step, stands_in, StandsWithin, Stop, Braking}
 use Rattle.laws.proofs.OnTick.{tick_keeps}
 use Rattle.laws.proofs.Invariant.{act_keeps, invariant}
-use Rattle.laws.proofs.Brakes.{act_brakes, step_down, short_stands}
+use Rattle.laws.proofs.Brakes.{stop_phase, act_brakes, step_down, short_stands}
 
 -- an axis that stands already
 stands_now : (n : ℕ) (a : AxisState) (es : List Event) → stands_in a ≡ true → StandsWithin n a es
@@ -46,6 +37,7 @@ Comes es = (a : AxisState) (t : Travel) → Kept a → a.status.work.phase ≡ b
 
 module _ (es : List Event) (ih : Comes es) (p : Programs) (a : AxisState) (t : Travel) (k : Kept a)
     (e : a.status.work.phase ≡ braking t) (h : max t.going.step 1 ≤ 1 + ticks es) where
+  -- the ticks that are left after this one
   abbrev n : ℕ
   n = max t.going.step 1 - 1
 
@@ -70,12 +62,13 @@ module _ (es : List Event) (ih : Comes es) (p : Programs) (a : AxisState) (t : T
   unless_by (Some c) j =
       stands_now n (unless_trouble (Some c) t a (slow_step (braked_in a.status.machine t.going) t a)) es refl
 
-  -- a tick
+  -- whatever the axis was doing was braking
   ticked_by : (ph : Phase) → ph ≡ braking t → Kept (tick_at ph p a) → StandsWithin n (tick_at ph p a) es
   ticked_by ph f j =
       subst (λ (x : Phase). Kept (tick_at x p a) → StandsWithin n (tick_at x p a) es) (sym f)
       (unless_by (trouble_of t a)) j
 
+  -- a tick
   tick_comes : StandsWithin n (tick_step p a) es
   tick_comes = ticked_by a.status.work.phase e (tick_keeps p a k)
 
@@ -117,29 +110,6 @@ stop_by (moving t) a es k e h = comes es a t k e h
 stop_by (braking t) a es k e h = comes es a t k e h
 stop_by (held c u) a es k e h = stands_now 1 a es (ap stands e)
 stop_by (between c) a es k e h = stands_now 1 a es (ap stands e)
-
--- the plan of a stop
-halts : (b : Bool) (x : Plan) → b ≡ true → cond b Halt x ≡ Halt
-halts true x e = refl
-halts false x e = absurd (false≢true e)
-
--- an accepted stop does nothing else
-plan_halts : (mode : Option Mode) (o : Order) (p : Programs) (m : Meaning) (s : Status) → stops o.command ≡ true
-    → Yes (order_questions mode o p m s) → plan_for mode o m s ≡ Halt
-plan_halts None o p m s e y = absurd (false≢true y.0)
-plan_halts (Some mode) o p m s e y = halts (stops o.command) (standing_plan mode o m s.machine s.work) e
-
--- an accepted stop brakes a move, and holds a program without one
-stop_phase : (v : Result Plan Cause) (o : Order) (p : Programs) (a : AxisState) → verdict o p a.drive a.status ≡ v
-    → stops o.command ≡ true → answered o a.status.work.phase v ≡ Ok tt
-    → (left o a.drive a.status v).work.phase ≡ stopped a.status.work.phase
-stop_phase (Ok plan) o p a q c e =
-    let m = a.drive in
-    let s = a.status in
-    let y = accepted (order_questions (mode_of o.mode) o p m s) (plan_for (mode_of o.mode) o m s) plan q in
-    let i : plan ≡ Halt = sym y.1 ∙ plan_halts (mode_of o.mode) o p m s c y.0 in
-    ap (λ (x : Plan). (carried_out o.mode x m s.machine s.work).phase) i
-stop_phase (Err cause) o p a q c e = cc
 
 -- the law of a stop
 pub stop : Stop
