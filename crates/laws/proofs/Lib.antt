@@ -4,3 +4,15 @@ pub mod Passing
 pub mod Taking
 pub mod Moved
 pub mod OnTick
+pub mod Ranges
+pub mod Data
+pub mod Refusing
+pub mod Plans
+pub mod Numbers
+pub mod Ordered
+pub mod Invariant
+pub mod Offsets
+pub mod TickShifts
+pub mod Shifts
+pub mod Brakes
+pub mod Stops
