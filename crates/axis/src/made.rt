@@ -1,14 +1,21 @@
 ghost use Rattle.std.specs.Prelude.{◌≡◌};
 ghost use Rattle.laws.specs.Acts.{new_axis};
+ghost use Rattle.laws.specs.Laws.{Invariant, NoPulseRefused, Stop, Braking, Shift};
 
 use crate::Axis;
 use drives::drive::Drive;
 use states::{Reading, Record};
 
 impl<D: Drive> Axis<D> {
-    /// A new axis on a drive, which is switched off; its count stays.
+    /// A new axis on a drive, which is switched off; its count stays. Whatever is then asked of it, and
+    /// whatever is in store, the laws of every run hold.
     pub fn new(mut drive: D) -> Axis<D>
-        ensures { result ≡ new_axis (D.Drive.meaning drive) }
+        ensures made { result ≡ new_axis (D.Drive.meaning drive) }
+        ensures invariant { Invariant }
+        ensures no_pulse_refused { NoPulseRefused }
+        ensures stop { Stop }
+        ensures braking { Braking }
+        ensures shift { Shift }
     {
         drive.level(false);
         Axis {
