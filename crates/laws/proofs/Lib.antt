@@ -16,3 +16,4 @@ pub mod TickShifts
 pub mod Shifts
 pub mod Brakes
 pub mod Stops
+pub mod Shown

@@ -1,3 +1,4 @@
 pub mod Acts
 pub mod Kept
 pub mod Laws
+pub mod Shows
