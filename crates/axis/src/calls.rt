@@ -54,4 +54,11 @@ impl<D: Drive> Axis<D> {
     {
         self.status.observe()
     }
+
+    /// Whether a program runs or is held on this axis.
+    pub fn uses(&self, program: u8) -> bool
+        ensures { result ≡ uses program self.now.status.work.phase }
+    {
+        self.status.uses(program)
+    }
 }

@@ -1,0 +1,4 @@
+pub mod State
+pub mod Faults
+pub mod Machine
+pub mod Made

@@ -1,0 +1,85 @@
+ghost use Rattle.std.specs.Prelude.{◌≡◌};
+ghost use Rattle.module.specs.declared.fault.Fault.TheVariants.{OfStore};
+ghost use Rattle.module.specs.Faults.{number_of, layer_of, place_of};
+
+use states::{AxisFault, Layer};
+use store::StoreFault;
+use store::fault::Place as StorePlace;
+
+/// Why a call is refused, or a tick fails.
+#[derive(Clone, Copy, PartialEq, Eq, Debug)]
+pub enum Fault {
+    /// 1: the call names none of the three axes; with the program that it names, 0 for none.
+    NoSuchAxis { axis: u8, program: u8 },
+    /// The axis's own fault.
+    OfAxis { axis: u8, fault: AxisFault },
+    /// The store's own fault.
+    OfStore(StoreFault),
+    /// 36: an axis runs or holds this program.
+    InUse(u8),
+}
+
+/// Where a fault is: a byte of the line, or axis, program and block, each 0 for none.
+#[derive(Clone, Copy, PartialEq, Eq, Debug)]
+pub enum Place {
+    Byte(usize),
+    At { axis: u8, program: u8, block: u8 },
+}
+
+impl From<StoreFault> for Fault {
+    ghost from_gives = { λ fault result. result ≡ OfStore fault };
+
+    fn from(fault: StoreFault) -> Fault {
+        Fault::OfStore(fault)
+    }
+}
+
+impl Fault {
+    /// The number of the question.
+    pub fn number(self) -> u8
+        ensures { result ≡ number_of self }
+    {
+        match self {
+            Fault::NoSuchAxis { .. } => 1,
+            Fault::OfAxis { fault, .. } => fault.cause.number(),
+            Fault::OfStore(fault) => fault.number(),
+            Fault::InUse(_) => 36,
+        }
+    }
+
+    /// The part of the core in which the fault arises.
+    pub fn layer(self) -> Layer
+        ensures { result ≡ layer_of self }
+    {
+        match self {
+            Fault::NoSuchAxis { .. } => Layer::Axis,
+            Fault::OfAxis { fault, .. } => fault.cause.layer(),
+            Fault::OfStore(StoreFault::Line(_)) => Layer::Line,
+            Fault::OfStore(_) | Fault::InUse(_) => Layer::Store,
+        }
+    }
+
+    pub fn place(self) -> Place
+        ensures { result ≡ place_of self }
+    {
+        match self {
+            Fault::NoSuchAxis { axis, program } => at(axis, program, 0),
+            Fault::OfAxis { axis, fault } => at(axis, fault.program, fault.block),
+            Fault::OfStore(fault) => match fault.place() {
+                StorePlace::Byte(byte) => Place::Byte(byte),
+                StorePlace::Program(program) => at(0, program, 0),
+            },
+            Fault::InUse(program) => at(0, program, 0),
+        }
+    }
+}
+
+fn at(axis: u8, program: u8, block: u8) -> Place
+    ensures { result ≡ Place.At axis program block }
+{
+    Place::At {
+        axis,
+        program,
+        block,
+    }
+}

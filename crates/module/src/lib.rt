@@ -1,0 +1,14 @@
+//! The module: three axes on three drives of any build, one program store, and the calls of its cable.
+#![tactic(auto)]
+
+pub mod call;
+mod calls;
+mod entries;
+pub mod fault;
+mod made;
+mod one_axis;
+pub mod three;
+
+pub use call::{Act, Answer, Call};
+pub use fault::{Fault, Place};
+pub use three::{Drives, Module, NotMade};
