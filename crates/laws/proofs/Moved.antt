@@ -66,7 +66,7 @@ failed_keeps d m w t f k o = record {
   range = k.range;
   agree = k.agree;
   drift = on_drift d m w.zero w.referenced t o k.range;
-  limits = λ e. let z : ◌≡◌ {A = ℕ} 0 1 = cc in absurd (omega arith);
+  limits = λ e. cc;
   doing = tt;
 }
 
@@ -88,7 +88,7 @@ pub run_on : (o : Option RawData) (m : Meaning) (w : Work) (t : Travel) (g : Goi
     → w.phase ≡ moving t → KeptBy o m w → Sound m → m.ready ≡ true
     → Sound (sent_on t g m) × KeptBy o (sent_on t g m) (ran (eqb g.step 0) g t (sent_on t g m).count o w) × Took t g m
 unfolding ticked_in
-run_on None m w t g i e k s r = let f = k.0 in let z : ◌≡◌ {A = ℕ} 0 1 = cc in absurd (omega arith)
+run_on None m w t g i e k s r = cc
 run_on (Some d) m w t g i e k s r =
     let y = doing_of d m w (moving t) e k in
     let f : Follows (ramp_of d) t.going g =
@@ -105,7 +105,7 @@ pub slow_on : (o : Option RawData) (m : Meaning) (w : Work) (t : Travel) (g : Go
     → w.phase ≡ braking t → KeptBy o m w → Sound m → m.ready ≡ true
     → Sound (sent_on t g m) × KeptBy o (sent_on t g m) (slowed (eqb g.step 0) g t (sent_on t g m).count o w) × Took t g m
 unfolding braked_in
-slow_on None m w t g i e k s r = let f = k.0 in let z : ◌≡◌ {A = ℕ} 0 1 = cc in absurd (omega arith)
+slow_on None m w t g i e k s r = cc
 slow_on (Some d) m w t g i e k s r =
     let y = doing_of d m w (braking t) e k in
     let f : Follows (ramp_of d) t.going g =
@@ -119,12 +119,12 @@ slow_on (Some d) m w t g i e k s r =
 -- trouble
 pub fail_moving : (o : Option RawData) (m : Meaning) (w : Work) (t : Travel) (f : AxisFault) → w.phase ≡ moving t → KeptBy o m w
     → KeptBy o m (failed f (placed o t m.count w) w)
-fail_moving None m w t f e k = let h = k.0 in let z : ◌≡◌ {A = ℕ} 0 1 = cc in absurd (omega arith)
+fail_moving None m w t f e k = cc
 fail_moving (Some d) m w t f e k = failed_keeps d m w t f k (doing_of d m w (moving t) e k)
 
 pub fail_braking : (o : Option RawData) (m : Meaning) (w : Work) (t : Travel) (f : AxisFault) → w.phase ≡ braking t → KeptBy o m w
     → KeptBy o m (failed f (placed o t m.count w) w)
-fail_braking None m w t f e k = let h = k.0 in let z : ◌≡◌ {A = ℕ} 0 1 = cc in absurd (omega arith)
+fail_braking None m w t f e k = cc
 fail_braking (Some d) m w t f e k = failed_keeps d m w t f k (doing_of d m w (braking t) e k)
 
 -- what shows: mode and M number stay, and where no program ran none runs
@@ -134,7 +134,7 @@ carried w v h a c q n = let p = q (ap (λ (x : ℕ). eqb x 8 || eqb x 9) (sym h)
 
 after_none : (o : Option Course) (mode : ℕ) → o ≡ None → course_of (after_move mode o) ≡ None
 after_none None mode e = refl
-after_none (Some c) mode e = let z : ◌≡◌ {A = ℕ} 0 1 = cc in absurd (omega arith)
+after_none (Some c) mode e = cc
 
 short_none : (o : Option Course) (target : ℤ) → o ≡ None → course_of (stopped_short target o) ≡ None
 short_none None target e = refl

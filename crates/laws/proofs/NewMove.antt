@@ -62,7 +62,7 @@ in_both l x g h =
 limits_by : (r : Bool) (d : RawData) (target : ℤ) → (lowest_of d r ≤ℤ target) × (target ≤ℤ highest_of d r)
     → r ≡ true → InLimits d target
 limits_by true d target h e = h
-limits_by false d target h e = let z : ◌≡◌ {A = ℕ} 0 1 = cc in absurd (omega arith)
+limits_by false d target h e = cc
 
 -- a target of which all is answered yes can be attained
 pub attains : (d : RawData) (rate : ℕ) (target : ℤ) (m : Meaning) (zero : ℤ) (referenced : Bool)

@@ -66,7 +66,7 @@ module _ (d : RawData) (m : Meaning) (w : Work) (k : KeptWith d m w) where
 -- without machine data no program runs
 pub take_keeps : (o : Option RawData) (b : Option Block) (c : Course) (m : Meaning) (w : Work) → w.phase ≡ between c
     → KeptBy o m w → KeptBy o m (next_run b c m o w)
-take_keeps None b c m w e k = let f = k.0 in let z : ◌≡◌ {A = ℕ} 0 1 = cc in absurd (omega arith)
+take_keeps None b c m w e k = cc
 take_keeps (Some d) b c m w e k = next_keeps d m w k b c
 
 -- the mode stays
