@@ -17,18 +17,9 @@ abbrev pub Within : Direction → ℕ → Meaning → Type 0
 Within Forward k m = (m.count +ℤ pos k) ≤ℤ m.greatest
 Within Backward k m = m.least ≤ℤ (m.count +ℤ neg_ℤ (pos k))
 
-reached_gone : (d : Direction) (k : ℕ) (m : Meaning) → m.ready ≡ true → Within d k m → reached d k m ≡ gone d k m
-reached_gone d k m h w = grind (arith, ints)
-
-less : (d : Direction) (k : ℕ) (m : Meaning) → Within d (suc k) m → Within d k m
-less d k m w = grind (arith, ints)
-
-next_accepted : (d : Direction) (k : ℕ) (m : Meaning) → m.ready ≡ true → Within d (suc k) m → answered d (at (gone d k m) m) ≡ Ok tt
-next_accepted d k m h w = grind (arith, ints)
-
 pub all-sent : (d : Direction) (k : ℕ) (m : Meaning) → Sound m → m.ready ≡ true → Within d k m → sent d k m ≡ at (gone d k m) m
-all-sent d k m s h w = reach d k m s ∙ ap (λ (n : ℤ). at n m) (reached_gone d k m h w)
+all-sent d k m s h w = rw (reach d k m s) (grind (arith, ints))
 
 pub all_told : (d : Direction) (k : ℕ) (m : Meaning) → Sound m → m.ready ≡ true → Within d k m → told d k m ≡ Ok tt
 all_told d zero m s h w = refl
-all_told d (suc k) m s h w = ap (answered d) (all-sent d k m s h (less d k m w)) ∙ next_accepted d k m h w
+all_told d (suc k) m s h w = rw (reach d k m s) (grind (arith, ints))
