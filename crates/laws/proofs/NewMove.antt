@@ -29,7 +29,7 @@ new_move d m w rate target c k a =
     let p = pulses_by d target in
     let b : n ≡ p -ℤ (p -ℤ n) = omega (arith, ints) in
     record {
-      began = subst (λ (x : ℤ). Near d.units d.pulses x w.coordinate) b k.drift;
+      began = rw (← b) k.drift;
       gone = at-start (p -ℤ n) n p (1000000 * nat_abs (p -ℤ n)) refl;
       whole = refl;
       safe = (stays-safe (ramp_of d)).0 d.fm rate (p -ℤ n);
@@ -37,14 +37,10 @@ new_move d m w rate target c k a =
       start = k.limits;
     }
 
--- the ends and the limits, as they are asked
-in_both : (l x g : ℤ) → (le_z l x && le_z x g) ≡ true → (l ≤ℤ x) × (x ≤ℤ g)
-in_both l x g h = grind (arith, ints)
-
 -- a target of which all is answered yes can be attained
 pub attains : (d : RawData) (rate : ℕ) (target : ℤ) (m : Meaning) (zero : ℤ) (referenced : Bool)
     → Yes (move_questions d rate target m zero referenced) → Attainable d m zero referenced target
 attains d rate target m zero referenced y = record {
-  ends = in_both m.least (zero +ℤ pulses_by d target) m.greatest y.1.1.0;
-  limits = λ e. rw e at (in_both (lowest_of d referenced) target (highest_of d referenced) y.1.0);
+  ends = grind (arith, ints, y.1.1.0);
+  limits = λ e. grind (arith, ints, y.1.0);
 }
