@@ -26,20 +26,10 @@ pub record Follows (f : Ramp) (g h : Going) : Type 0 where
 
 pub ticked_follows : (f : Ramp) (g : Going) → Safe f g → Follows f g (ticked f g)
 ticked_follows f g s =
-    record { total = refl; less = (left_keeps f g (chosen f g) (chosen-way f g)).0; safe = (stays-safe f).1 g s }
+    record { total = refl; less = grind arith; safe = (stays-safe f).1 g s }
 
 pub braked_follows : (f : Ramp) (g : Going) → Safe f g → Follows f g (braked f g)
 braked_follows f g s = record { total = refl; less = omega arith; safe = (stays-safe f).2 g s }
-
--- whole millions: more are passed as less is left, and no more than the whole has
-more-passed : (t u a b : ℕ) → u ≡ t → b ≤ a → (t - a) / 1000000 ≤ (u - b) / 1000000
-more-passed t u a b e h = omega arith
-
-few_passed : (t l n : ℕ) → t ≡ 1000000 * n → (t - l) / 1000000 ≤ n
-few_passed t l n e = omega arith
-
-all-passed : (t l n : ℕ) → t ≡ 1000000 * n → l ≡ 0 → (t - l) / 1000000 ≡ n
-all-passed t l n e z = omega arith
 
 -- by the distance D to T: the count after the pulses from a to b of the way
 gone_on_lem : (D : ℤ) (m : Meaning) (zero T : ℤ) (a b : ℕ) → m.count -ℤ zero ≡ (T -ℤ D) +ℤ along D a → a ≤ b
@@ -55,17 +45,16 @@ has_room (negsuc n) m zero T a b e h k l u = omega (arith, ints)
 
 -- the drive stays within its ends
 sound_at : (D : ℤ) (m : Meaning) (k : ℕ) → Sound m → Within (direction_of D) k m → Sound (at (gone (direction_of D) k m) m)
-sound_at (pos n) m k s w = record { floor = s.floor; low = omega (arith, ints); high = w; ceiling = s.ceiling }
-sound_at (negsuc n) m k s w = record { floor = s.floor; low = w; high = omega (arith, ints); ceiling = s.ceiling }
+sound_at D m k s w = record { floor = s.floor; low = grind (arith, ints); high = grind (arith, ints); ceiling = s.ceiling }
 
 -- a tick from t to g of a move on its way, by a drive that is ready
 module _ (d : RawData) (m : Meaning) (zero : ℤ) (r : Bool) (t : Travel) (g : Going) (s : Sound m) (ready : m.ready ≡ true)
     (o : OnWay d m zero r t) (f : Follows (ramp_of d) t.going g) where
   few : passed_in g ≤ nat_abs t.distance
-  few = few_passed g.total g.left (nat_abs t.distance) (f.total ∙ o.whole)
+  few = omega (arith, f.total, o.whole)
 
   grows : passed_in t.going ≤ passed_in g
-  grows = more-passed t.going.total g.total t.going.left g.left f.total f.less
+  grows = omega (arith, f.total, f.less)
 
   roomy : Within (direction_of t.distance) (passing t.going g).pulses m
   roomy =
@@ -99,29 +88,27 @@ module _ (d : RawData) (m : Meaning) (zero : ℤ) (r : Bool) (t : Travel) (g : G
 
 -- n lies between where the move began and its end
 on_between : (D T n : ℤ) (p : ℕ) → n ≡ (T -ℤ D) +ℤ along D p → p ≤ nat_abs D → Between (T -ℤ D) T n
-on_between (pos k) T n p e h = (omega (arith, ints, clamps), omega (arith, ints, clamps))
-on_between (negsuc k) T n p e h = (omega (arith, ints, clamps), omega (arith, ints, clamps))
+on_between D T n p e h = grind (arith, ints, clamps)
 
 -- what lies between two coordinates within the limits is within them
 limits-between : (d : RawData) (a b x : ℤ) → InLimits d a → InLimits d b → Between a b x → InLimits d x
-limits-between d a b x p q h = (omega (arith, ints, clamps), omega (arith, ints, clamps))
+limits-between d a b x p q h = omega (arith, ints, clamps)
 
 at-end : (D T n : ℤ) (p : ℕ) → n ≡ (T -ℤ D) +ℤ along D p → p ≡ nat_abs D → n ≡ T
-at-end (pos k) T n p e h = omega (arith, ints)
-at-end (negsuc k) T n p e h = omega (arith, ints)
+at-end D T n p e h = grind (arith, ints)
 
 -- the coordinate of a move on its way
 module _ (d : RawData) (m : Meaning) (zero : ℤ) (r : Bool) (t : Travel) (o : OnWay d m zero r t) where
   in_between : Between (began_at d t) (pulses_by d t.target) (m.count -ℤ zero)
   in_between =
       on_between t.distance (pulses_by d t.target) (m.count -ℤ zero) (passed_in t.going) o.gone
-      (few_passed t.going.total t.going.left (nat_abs t.distance) o.whole)
+      (omega (arith, o.whole))
 
   -- with nothing left n is that of the target
   pub ended_at : t.going.left ≡ 0 → m.count -ℤ zero ≡ pulses_by d t.target
   ended_at z =
       at-end t.distance (pulses_by d t.target) (m.count -ℤ zero) (passed_in t.going) o.gone
-      (all-passed t.going.total t.going.left (nat_abs t.distance) o.whole z)
+      (omega (arith, o.whole, z))
 
 drift_by : (d : RawData) (start target from n : ℤ) → InRange d → Near d.units d.pulses from start
     → Between from (pulses_by d target) n → Near d.units d.pulses n (placed_in (Some d) start target n)
