@@ -70,21 +70,18 @@ module _ (d : RawData) (m : Meaning) (zero : ℤ) (r : Bool) (t : Travel) (g : G
   sent-at = all-sent (direction_of t.distance) (passing t.going g).pulses m s ready roomy
 
   pub sound_on : Sound (sent_on t g m)
-  sound_on = subst Sound (sym sent-at) (sound_at t.distance m (passing t.going g).pulses s roomy)
+  sound_on = rw sent-at (sound_at t.distance m (passing t.going g).pulses s roomy)
 
-  way_at : OnWay d (at (gone (direction_of t.distance) (passing t.going g).pulses m) m) zero r (with_going g t)
-  way_at = record {
+  -- the move stays on its way
+  pub way_on : OnWay d (sent_on t g m) zero r (with_going g t)
+  way_on = rw sent-at (record {
     began = o.began;
     gone = gone_on_lem t.distance m zero (pulses_by d t.target) (passed_in t.going) (passed_in g) o.gone grows;
     whole = f.total ∙ o.whole;
     safe = f.safe;
     target = record { ends = o.target.ends; limits = o.target.limits };
     start = o.start;
-  }
-
-  -- the move stays on its way
-  pub way_on : OnWay d (sent_on t g m) zero r (with_going g t)
-  way_on = subst (λ (x : Meaning). OnWay d x zero r (with_going g t)) (sym sent-at) way_at
+  })
 
 -- n lies between where the move began and its end
 on_between : (D T n : ℤ) (p : ℕ) → n ≡ (T -ℤ D) +ℤ along D p → p ≤ nat_abs D → Between (T -ℤ D) T n
@@ -99,42 +96,21 @@ at-end D T n p e h = grind (arith, ints)
 
 -- the coordinate of a move on its way
 module _ (d : RawData) (m : Meaning) (zero : ℤ) (r : Bool) (t : Travel) (o : OnWay d m zero r t) where
-  in_between : Between (began_at d t) (pulses_by d t.target) (m.count -ℤ zero)
-  in_between =
-      on_between t.distance (pulses_by d t.target) (m.count -ℤ zero) (passed_in t.going) o.gone
-      (omega (arith, o.whole))
-
-  -- with nothing left n is that of the target
-  pub ended_at : t.going.left ≡ 0 → m.count -ℤ zero ≡ pulses_by d t.target
-  ended_at z =
-      at-end t.distance (pulses_by d t.target) (m.count -ℤ zero) (passed_in t.going) o.gone
-      (omega (arith, o.whole, z))
-
-drift_by : (d : RawData) (start target from n : ℤ) → InRange d → Near d.units d.pulses from start
-    → Between from (pulses_by d target) n → Near d.units d.pulses n (placed_in (Some d) start target n)
-unfolding placed_in
-drift_by d start target from n i near b =
-    drift d.units d.pulses i.2.0.0 i.2.1.0 start target from n near b
-
-arrives_by : (d : RawData) (target : ℤ) → InRange d → Near d.units d.pulses (pulses_by d target) target
-arrives_by d target i = arrives d.units d.pulses i.2.0.0 i.2.1.0 target
-
-placed-between : (d : RawData) (start target n : ℤ) → Between start target (placed_in (Some d) start target n)
-unfolding placed_in
-placed-between d start target n = held-between start target (nearest_by d n)
-
-module _ (d : RawData) (m : Meaning) (zero : ℤ) (r : Bool) (t : Travel) (o : OnWay d m zero r t) where
   pub on_drift : InRange d
       → Near d.units d.pulses (m.count -ℤ zero) (placed_in (Some d) t.start t.target (m.count -ℤ zero))
+  unfolding placed_in
   on_drift i =
-      drift_by d t.start t.target (began_at d t) (m.count -ℤ zero) i o.began (in_between d m zero r t o)
+      drift d.units d.pulses i.2.0.0 i.2.1.0 t.start t.target (began_at d t) (m.count -ℤ zero) o.began
+      (on_between t.distance (pulses_by d t.target) (m.count -ℤ zero) (passed_in t.going) o.gone (omega (arith, o.whole)))
 
   pub on_limits : r ≡ true → InLimits d (placed_in (Some d) t.start t.target (m.count -ℤ zero))
+  unfolding placed_in
   on_limits e =
-      limits-between d t.start t.target (placed_in (Some d) t.start t.target (m.count -ℤ zero))
-      (o.start e) (o.target.limits e) (placed-between d t.start t.target (m.count -ℤ zero))
+      limits-between d t.start t.target _ (o.start e) (o.target.limits e)
+      (held-between t.start t.target (nearest_by d (m.count -ℤ zero)))
 
-  -- with nothing left the target is near
+  -- with nothing left n is that of the target, and the target is near
   pub end-drift : InRange d → t.going.left ≡ 0 → Near d.units d.pulses (m.count -ℤ zero) t.target
   end-drift i z =
-      subst (λ (n : ℤ). Near d.units d.pulses n t.target) (sym (ended_at d m zero r t o z)) (arrives_by d t.target i)
+      rw (at-end t.distance (pulses_by d t.target) (m.count -ℤ zero) (passed_in t.going) o.gone (omega (arith, o.whole, z)))
+      (arrives d.units d.pulses i.2.0.0 i.2.1.0 t.target)
