@@ -10,7 +10,7 @@ use Rattle.motion.proofs.Runs.{tick-ends}
 use Rattle.states.specs.declared.fault.AxisFault.{AxisFault}
 use Rattle.states.specs.State.{Course, Travel, Phase, moving, braking, Work, course_of}
 use Rattle.states.specs.Moves.{direction_of, ticked_in, braked_in}
-use Rattle.ticks.specs.Moving.{placed, with_going, after_move, stopped_short, ran, slowed, failed, sent_on}
+use Rattle.ticks.specs.Moving.{placed, at, with_going, after_move, stopped_short, ran, slowed, failed, sent_on}
 use Rattle.laws.specs.Kept.{KeptIn, OnWay, KeptWith, KeptBy, Quiet}
 use Rattle.laws.proofs.Passing.{Follows, ticked_follows, braked_follows, taken, sound_on, way_on, on_drift, on_limits, end-drift}
 use Rattle.laws.proofs.Taking.{done_keeps}
@@ -26,6 +26,25 @@ short_keeps None d m zero r t w = tt
 short_keeps (Some c) d m zero r t w = w.target
 
 -- where a move is, with the drive m: after a tick of motion, a braking tick, and trouble
+module _ (d : RawData) (m n : Meaning) (w : Work) (t : Travel) (k : KeptWith d n w) (o : OnWay d m w.zero w.referenced t) where
+  placed_keeps : (p : Phase) → KeptIn p d m w.zero w.referenced → KeptWith d m (at (placed (Some d) t m.count w) p w)
+  placed_keeps p h = record {
+    range = k.range;
+    agree = k.agree;
+    drift = on_drift d m w.zero w.referenced t o k.range;
+    limits = on_limits d m w.zero w.referenced t o;
+    doing = h;
+  }
+
+  failed_keeps : (f : AxisFault) → KeptWith d m (failed f (placed (Some d) t m.count w) w)
+  failed_keeps f = record {
+    range = k.range;
+    agree = k.agree;
+    drift = on_drift d m w.zero w.referenced t o k.range;
+    limits = λ e. cc;
+    doing = tt;
+  }
+
 module _ (d : RawData) (m n : Meaning) (w : Work) (t : Travel) (g : Going) (k : KeptWith d n w)
     (o : OnWay d m w.zero w.referenced (with_going g t)) where
   ran_keeps : (b : Bool) → (b ≡ true → g.left ≡ 0) → KeptWith d m (ran b g t m.count (Some d) w)
@@ -36,39 +55,13 @@ module _ (d : RawData) (m n : Meaning) (w : Work) (t : Travel) (g : Going) (k : 
     limits = o.target.limits;
     doing = after_keeps t.course w.mode d m w.zero w.referenced;
   }
-  ran_keeps false h = record {
-    range = k.range;
-    agree = k.agree;
-    drift = on_drift d m w.zero w.referenced (with_going g t) o k.range;
-    limits = on_limits d m w.zero w.referenced (with_going g t) o;
-    doing = o;
-  }
+  ran_keeps false h = placed_keeps d m n w (with_going g t) k o (moving (with_going g t)) o
 
   slowed_keeps : (b : Bool) → KeptWith d m (slowed b g t m.count (Some d) w)
-  slowed_keeps true = record {
-    range = k.range;
-    agree = k.agree;
-    drift = on_drift d m w.zero w.referenced (with_going g t) o k.range;
-    limits = on_limits d m w.zero w.referenced (with_going g t) o;
-    doing = short_keeps t.course d m w.zero w.referenced (with_going g t) o;
-  }
-  slowed_keeps false = record {
-    range = k.range;
-    agree = k.agree;
-    drift = on_drift d m w.zero w.referenced (with_going g t) o k.range;
-    limits = on_limits d m w.zero w.referenced (with_going g t) o;
-    doing = o;
-  }
-
-failed_keeps : (d : RawData) (m : Meaning) (w : Work) (t : Travel) (f : AxisFault) → KeptWith d m w
-    → OnWay d m w.zero w.referenced t → KeptWith d m (failed f (placed (Some d) t m.count w) w)
-failed_keeps d m w t f k o = record {
-  range = k.range;
-  agree = k.agree;
-  drift = on_drift d m w.zero w.referenced t o k.range;
-  limits = λ e. cc;
-  doing = tt;
-}
+  slowed_keeps true =
+      placed_keeps d m n w (with_going g t) k o (stopped_short t.target t.course)
+      (short_keeps t.course d m w.zero w.referenced (with_going g t) o)
+  slowed_keeps false = placed_keeps d m n w (with_going g t) k o (braking (with_going g t)) o
 
 -- a tick that ends a move has nothing left of it
 nothing_left : (d : RawData) (g : Going) → eqb (ticked (ramp_of d) g).step 0 ≡ true → (ticked (ramp_of d) g).left ≡ 0
@@ -120,36 +113,22 @@ slow_on (Some d) m w t g i e k s r =
 pub fail_moving : (o : Option RawData) (m : Meaning) (w : Work) (t : Travel) (f : AxisFault) → w.phase ≡ moving t → KeptBy o m w
     → KeptBy o m (failed f (placed o t m.count w) w)
 fail_moving None m w t f e k = cc
-fail_moving (Some d) m w t f e k = failed_keeps d m w t f k (doing_of d m w (moving t) e k)
+fail_moving (Some d) m w t f e k = failed_keeps d m m w t k (doing_of d m w (moving t) e k) f
 
 pub fail_braking : (o : Option RawData) (m : Meaning) (w : Work) (t : Travel) (f : AxisFault) → w.phase ≡ braking t → KeptBy o m w
     → KeptBy o m (failed f (placed o t m.count w) w)
 fail_braking None m w t f e k = cc
-fail_braking (Some d) m w t f e k = failed_keeps d m w t f k (doing_of d m w (braking t) e k)
+fail_braking (Some d) m w t f e k = failed_keeps d m m w t k (doing_of d m w (braking t) e k) f
 
 -- what shows: mode and M number stay, and where no program ran none runs
-carried : (w v : Work) → v.mode ≡ w.mode → v.auxiliary ≡ w.auxiliary → (course_of w.phase ≡ None → course_of v.phase ≡ None)
-    → Quiet w → Quiet v
-carried w v h a c q n = let p = q (ap (λ (x : ℕ). eqb x 8 || eqb x 9) (sym h) ∙ n) in (a ∙ p.0, c p.1)
-
-after_none : (o : Option Course) (mode : ℕ) → o ≡ None → course_of (after_move mode o) ≡ None
-after_none None mode e = refl
-after_none (Some c) mode e = cc
-
-short_none : (o : Option Course) (target : ℤ) → o ≡ None → course_of (stopped_short target o) ≡ None
-short_none None target e = refl
-short_none (Some c) target e = e
-
 module _ (w : Work) (t : Travel) (e : course_of w.phase ≡ t.course) (q : Quiet w) where
   pub ran_quiet : (b : Bool) (g : Going) (count : ℤ) (o : Option RawData) → Quiet (ran b g t count o w)
-  ran_quiet true g count o =
-      carried w (ran true g t count o w) refl refl (λ h. after_none t.course w.mode (sym e ∙ h)) q
-  ran_quiet false g count o = carried w (ran false g t count o w) refl refl (λ h. sym e ∙ h) q
+  ran_quiet true g count o = λ n. let p = q n in (p.0, rw (sym e ∙ p.1))
+  ran_quiet false g count o = λ n. let p = q n in (p.0, sym e ∙ p.1)
 
   pub slowed_quiet : (b : Bool) (g : Going) (count : ℤ) (o : Option RawData) → Quiet (slowed b g t count o w)
-  slowed_quiet true g count o =
-      carried w (slowed true g t count o w) refl refl (λ h. short_none t.course t.target (sym e ∙ h)) q
-  slowed_quiet false g count o = carried w (slowed false g t count o w) refl refl (λ h. sym e ∙ h) q
+  slowed_quiet true g count o = λ n. let p = q n in (p.0, rw (sym e ∙ p.1))
+  slowed_quiet false g count o = λ n. let p = q n in (p.0, sym e ∙ p.1)
 
 pub failed_quiet : (w : Work) (f : AxisFault) (c : ℤ) → Quiet w → Quiet (failed f c w)
-failed_quiet w f c q = carried w (failed f c w) refl refl (λ h. refl) q
+failed_quiet w f c q = λ n. ((q n).0, refl)

@@ -50,16 +50,13 @@ sound_at D m k s w = record { floor = s.floor; low = grind (arith, ints); high =
 -- a tick from t to g of a move on its way, by a drive that is ready
 module _ (d : RawData) (m : Meaning) (zero : ℤ) (r : Bool) (t : Travel) (g : Going) (s : Sound m) (ready : m.ready ≡ true)
     (o : OnWay d m zero r t) (f : Follows (ramp_of d) t.going g) where
-  few : passed_in g ≤ nat_abs t.distance
-  few = omega (arith, f.total, o.whole)
-
   grows : passed_in t.going ≤ passed_in g
   grows = omega (arith, f.total, f.less)
 
   roomy : Within (direction_of t.distance) (passing t.going g).pulses m
   roomy =
-      has_room t.distance m zero (pulses_by d t.target) (passed_in t.going) (passed_in g) o.gone grows few
-      o.target.ends.0 o.target.ends.1
+      has_room t.distance m zero (pulses_by d t.target) (passed_in t.going) (passed_in g) o.gone grows
+      (omega (arith, f.total, o.whole)) o.target.ends.0 o.target.ends.1
 
   -- every pulse is taken
   pub taken : told (direction_of t.distance) (passing t.going g).pulses m ≡ Ok tt
@@ -87,10 +84,6 @@ module _ (d : RawData) (m : Meaning) (zero : ℤ) (r : Bool) (t : Travel) (g : G
 on_between : (D T n : ℤ) (p : ℕ) → n ≡ (T -ℤ D) +ℤ along D p → p ≤ nat_abs D → Between (T -ℤ D) T n
 on_between D T n p e h = grind (arith, ints, clamps)
 
--- what lies between two coordinates within the limits is within them
-limits-between : (d : RawData) (a b x : ℤ) → InLimits d a → InLimits d b → Between a b x → InLimits d x
-limits-between d a b x p q h = omega (arith, ints, clamps)
-
 at-end : (D T n : ℤ) (p : ℕ) → n ≡ (T -ℤ D) +ℤ along D p → p ≡ nat_abs D → n ≡ T
 at-end D T n p e h = grind (arith, ints)
 
@@ -105,9 +98,7 @@ module _ (d : RawData) (m : Meaning) (zero : ℤ) (r : Bool) (t : Travel) (o : O
 
   pub on_limits : r ≡ true → InLimits d (placed_in (Some d) t.start t.target (m.count -ℤ zero))
   unfolding placed_in
-  on_limits e =
-      limits-between d t.start t.target _ (o.start e) (o.target.limits e)
-      (held-between t.start t.target (nearest_by d (m.count -ℤ zero)))
+  on_limits e = omega (arith, ints, clamps, o.start e, o.target.limits e)
 
   -- with nothing left n is that of the target, and the target is near
   pub end-drift : InRange d → t.going.left ≡ 0 → Near d.units d.pulses (m.count -ℤ zero) t.target
