@@ -63,15 +63,6 @@ module _ (d : RawData) (m n : Meaning) (w : Work) (t : Travel) (g : Going) (k : 
       (short_keeps t.course d m w.zero w.referenced (with_going g t) o)
   slowed_keeps false = placed_keeps d m n w (with_going g t) k o (braking (with_going g t)) o
 
--- a tick that ends a move has nothing left of it
-nothing_left : (d : RawData) (g : Going) → eqb (ticked (ramp_of d) g).step 0 ≡ true → (ticked (ramp_of d) g).left ≡ 0
-nothing_left d g e = tick-ends (ramp_of d) g (eqb-true (ticked (ramp_of d) g).step 0 e)
-
--- what the axis does, read from what it keeps
-doing_of : (d : RawData) (m : Meaning) (w : Work) (p : Phase) → w.phase ≡ p → KeptWith d m w
-    → KeptIn p d m w.zero w.referenced
-doing_of d m w p e k = subst (λ (x : Phase). KeptIn x d m w.zero w.referenced) e k.doing
-
 -- every pulse is taken
 abbrev pub Took : Travel → Going → Meaning → Type 0
 Took t g m = told (direction_of t.distance) (passing t.going g).pulses m ≡ Ok tt
@@ -83,12 +74,10 @@ pub run_on : (o : Option RawData) (m : Meaning) (w : Work) (t : Travel) (g : Goi
 unfolding ticked_in
 run_on None m w t g i e k s r = cc
 run_on (Some d) m w t g i e k s r =
-    let y = doing_of d m w (moving t) e k in
-    let f : Follows (ramp_of d) t.going g =
-    subst (Follows (ramp_of d) t.going) (sym i) (ticked_follows (ramp_of d) t.going y.safe) in
+    let y = rw e at k.doing in
+    let f : Follows (ramp_of d) t.going g = rw i (ticked_follows (ramp_of d) t.going y.safe) in
     let x = way_on d m w.zero w.referenced t g s r y f in
-    let l : eqb g.step 0 ≡ true → g.left ≡ 0 =
-    subst (λ (x : Going). eqb x.step 0 ≡ true → x.left ≡ 0) (sym i) (nothing_left d t.going) in (
+    let l : eqb g.step 0 ≡ true → g.left ≡ 0 = rw i (λ h. tick-ends (ramp_of d) t.going (eqb-true _ 0 h)) in (
       sound_on d m w.zero w.referenced t g s r y f,
       ran_keeps d (sent_on t g m) m w t g k x (eqb g.step 0) l,
       taken d m w.zero w.referenced t g s r y f,
@@ -100,9 +89,8 @@ pub slow_on : (o : Option RawData) (m : Meaning) (w : Work) (t : Travel) (g : Go
 unfolding braked_in
 slow_on None m w t g i e k s r = cc
 slow_on (Some d) m w t g i e k s r =
-    let y = doing_of d m w (braking t) e k in
-    let f : Follows (ramp_of d) t.going g =
-    subst (Follows (ramp_of d) t.going) (sym i) (braked_follows (ramp_of d) t.going y.safe) in
+    let y = rw e at k.doing in
+    let f : Follows (ramp_of d) t.going g = rw i (braked_follows (ramp_of d) t.going y.safe) in
     let x = way_on d m w.zero w.referenced t g s r y f in (
       sound_on d m w.zero w.referenced t g s r y f,
       slowed_keeps d (sent_on t g m) m w t g k x (eqb g.step 0),
@@ -113,12 +101,12 @@ slow_on (Some d) m w t g i e k s r =
 pub fail_moving : (o : Option RawData) (m : Meaning) (w : Work) (t : Travel) (f : AxisFault) → w.phase ≡ moving t → KeptBy o m w
     → KeptBy o m (failed f (placed o t m.count w) w)
 fail_moving None m w t f e k = cc
-fail_moving (Some d) m w t f e k = failed_keeps d m m w t k (doing_of d m w (moving t) e k) f
+fail_moving (Some d) m w t f e k = failed_keeps d m m w t k (rw e at k.doing) f
 
 pub fail_braking : (o : Option RawData) (m : Meaning) (w : Work) (t : Travel) (f : AxisFault) → w.phase ≡ braking t → KeptBy o m w
     → KeptBy o m (failed f (placed o t m.count w) w)
 fail_braking None m w t f e k = cc
-fail_braking (Some d) m w t f e k = failed_keeps d m m w t k (doing_of d m w (braking t) e k) f
+fail_braking (Some d) m w t f e k = failed_keeps d m m w t k (rw e at k.doing) f
 
 -- what shows: mode and M number stay, and where no program ran none runs
 module _ (w : Work) (t : Travel) (e : course_of w.phase ≡ t.course) (q : Quiet w) where
