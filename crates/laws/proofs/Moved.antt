@@ -1,5 +1,5 @@
 -- What a tick of a move leaves: it keeps what an axis keeps, and the drive takes every pulse of it.
-use Rattle.std.proofs.Common.{◌≡◌, ℕ, Bool, true, false, ◌||◌, eqb, ℤ, Some, None, Ok, Option, sym, refl, ap, ◌∙◌, subst, arith}
+use Rattle.std.proofs.Common.{◌≡◌, ℕ, Bool, true, false, ◌||◌, eqb, ℤ, Some, None, Ok, Option, sym, refl, ap, ◌∙◌, subst, arith, ◌⊎◌, inl, inr}
 use Rattle.std.proofs.lemmas.Bool.{eqb-true}
 use Rattle.drives.specs.Meaning.{Meaning, Sound}
 use Rattle.drives.specs.Sending.{told}
@@ -97,16 +97,13 @@ slow_on (Some d) m w t g i e k s r =
       taken d m w.zero w.referenced t g s r y f,
     )
 
--- trouble
-pub fail_moving : (o : Option RawData) (m : Meaning) (w : Work) (t : Travel) (f : AxisFault) → w.phase ≡ moving t → KeptBy o m w
-    → KeptBy o m (failed f (placed o t m.count w) w)
-fail_moving None m w t f e k = cc
-fail_moving (Some d) m w t f e k = failed_keeps d m m w t k (rw e at k.doing) f
-
-pub fail_braking : (o : Option RawData) (m : Meaning) (w : Work) (t : Travel) (f : AxisFault) → w.phase ≡ braking t → KeptBy o m w
-    → KeptBy o m (failed f (placed o t m.count w) w)
-fail_braking None m w t f e k = cc
-fail_braking (Some d) m w t f e k = failed_keeps d m m w t k (rw e at k.doing) f
+-- trouble stops a move and a move that is braked alike
+pub fail_on : (o : Option RawData) (m : Meaning) (w : Work) (t : Travel) (f : AxisFault)
+    → (w.phase ≡ moving t) ⊎ (w.phase ≡ braking t) → KeptBy o m w → KeptBy o m (failed f (placed o t m.count w) w)
+fail_on None m w t f (inl e) k = cc
+fail_on None m w t f (inr e) k = cc
+fail_on (Some d) m w t f (inl e) k = failed_keeps d m m w t k (rw e at k.doing) f
+fail_on (Some d) m w t f (inr e) k = failed_keeps d m m w t k (rw e at k.doing) f
 
 -- what shows: mode and M number stay, and where no program ran none runs
 module _ (w : Work) (t : Travel) (e : course_of w.phase ≡ t.course) (q : Quiet w) where

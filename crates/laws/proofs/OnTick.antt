@@ -1,5 +1,5 @@
 -- A tick keeps what an axis keeps, and the drive takes every pulse of it.
-use Rattle.std.proofs.Common.{◌≡◌, Bool, true, false, eqb, ℤ, Some, None, Option, refl, ap}
+use Rattle.std.proofs.Common.{◌≡◌, Bool, true, false, eqb, ℤ, Some, None, Option, refl, ap, ◌⊎◌, inl, inr, arith}
 use Rattle.store.specs.Programs.{Programs}
 use Rattle.states.specs.declared.fault.Cause.{Cause}
 use Rattle.states.specs.State.{Travel, Phase, standing, moving, braking, held, between, AxisState, course_of}
@@ -11,7 +11,7 @@ use Rattle.ticks.specs.Ticks.{with_status, trouble_of, unless_trouble, run_step,
 use Rattle.laws.specs.Kept.{Kept}
 use Rattle.laws.specs.Laws.{TakenIn}
 use Rattle.laws.proofs.Taking.{take_keeps, take_quiet}
-use Rattle.laws.proofs.Moved.{run_on, slow_on, fail_moving, fail_braking, ran_quiet, slowed_quiet, failed_quiet}
+use Rattle.laws.proofs.Moved.{run_on, slow_on, fail_on, ran_quiet, slowed_quiet, failed_quiet}
 
 -- the tick by what the axis is doing, trouble first
 unless_keeps : (o : Option Cause) (t : Travel) (a next : AxisState) → trouble_of t a ≡ o
@@ -21,12 +21,8 @@ unless_keeps None t a next e f h = h e
 unless_keeps (Some c) t a next e f h = f c
 
 -- a move without trouble has a drive that is ready
-ready_by : (D : ℤ) (ready begin end : Bool) → trouble D ready begin end ≡ None → ready ≡ true
-ready_by D true begin end e = refl
-ready_by D false begin end e = cc
-
 ready_in : (t : Travel) (a : AxisState) → trouble_of t a ≡ None → a.drive.ready ≡ true
-ready_in t a e = ready_by t.distance a.drive.ready a.status.begin a.status.end e
+ready_in t a e = grind arith
 
 module _ (a : AxisState) (k : Kept a) (t : Travel) where
   moving-ran : a.status.work.phase ≡ moving t → trouble_of t a ≡ None
@@ -42,15 +38,6 @@ module _ (a : AxisState) (k : Kept a) (t : Travel) where
             a.status.machine;
       }
 
-  moving-failed : a.status.work.phase ≡ moving t → (c : Cause)
-      → Kept (with_status (fail_step c t a.drive.count a.status) a)
-  moving-failed e c = record {
-    drive = k.drive;
-    holds = fail_moving a.status.machine a.drive a.status.work t (fault_in t.course c) e k.holds;
-    shown =
-        failed_quiet a.status.work (fault_in t.course c) (placed a.status.machine t a.drive.count a.status.work) k.shown;
-  }
-
   braking-ran : a.status.work.phase ≡ braking t → trouble_of t a ≡ None
       → Kept (slow_step (braked_in a.status.machine t.going) t a)
   braking-ran e n =
@@ -64,11 +51,11 @@ module _ (a : AxisState) (k : Kept a) (t : Travel) where
             a.status.machine;
       }
 
-  braking-failed : a.status.work.phase ≡ braking t → (c : Cause)
+  move_failed : (a.status.work.phase ≡ moving t) ⊎ (a.status.work.phase ≡ braking t) → (c : Cause)
       → Kept (with_status (fail_step c t a.drive.count a.status) a)
-  braking-failed e c = record {
+  move_failed e c = record {
     drive = k.drive;
-    holds = fail_braking a.status.machine a.drive a.status.work t (fault_in t.course c) e k.holds;
+    holds = fail_on a.status.machine a.drive a.status.work t (fault_in t.course c) e k.holds;
     shown =
         failed_quiet a.status.work (fault_in t.course c) (placed a.status.machine t a.drive.count a.status.work) k.shown;
   }
@@ -77,10 +64,10 @@ tick_by : (ph : Phase) (p : Programs) (a : AxisState) → a.status.work.phase �
 tick_by standing p a e k = k
 tick_by (moving t) p a e k =
     unless_keeps (trouble_of t a) t a (run_step (ticked_in a.status.machine t.going) t a) refl
-    (moving-failed a k t e) (moving-ran a k t e)
+    (move_failed a k t (inl e)) (moving-ran a k t e)
 tick_by (braking t) p a e k =
     unless_keeps (trouble_of t a) t a (slow_step (braked_in a.status.machine t.going) t a) refl
-    (braking-failed a k t e) (braking-ran a k t e)
+    (move_failed a k t (inr e)) (braking-ran a k t e)
 tick_by (held c u) p a e k = k
 tick_by (between c) p a e k = record {
   drive = k.drive;

@@ -70,17 +70,8 @@ take_keeps None b c m w e k = cc
 take_keeps (Some d) b c m w e k = next_keeps d m w k b c
 
 -- the mode stays
-begun-mode : (v : Result Aim Cause) (o : Option RawData) (c : Course) (w : Work) → (begun_with v o c w).mode ≡ w.mode
-begun-mode (Ok aim) o c w = refl
-begun-mode (Err cause) o c w = refl
-
-block_mode : (x : Option ℤ) (c : Course) (m : Meaning) (o : Option RawData) (w : Work) → (block_run x c m o w).mode ≡ w.mode
-block_mode None c m o w = refl
-block_mode (Some x) c m o w = begun-mode (block_verdict o c x m w) o c w
-
 next_mode : (b : Option Block) (c : Course) (m : Meaning) (o : Option RawData) (w : Work) → (next_run b c m o w).mode ≡ w.mode
-next_mode None c m o w = refl
-next_mode (Some b) c m o w = block_mode b.target (with_words b c) m o w
+next_mode b c m o w = grind arith
 
 -- a program runs in mode 8 or 9, where nothing is asked of what shows
 in_program : (w v : Work) (c : Course) → w.phase ≡ between c → v.mode ≡ w.mode → Quiet w → Quiet v
