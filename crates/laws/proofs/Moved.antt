@@ -100,8 +100,7 @@ slow_on (Some d) m w t g i e k s r =
 -- trouble stops a move and a move that is braked alike
 pub fail_on : (o : Option RawData) (m : Meaning) (w : Work) (t : Travel) (f : AxisFault)
     → (w.phase ≡ moving t) ⊎ (w.phase ≡ braking t) → KeptBy o m w → KeptBy o m (failed f (placed o t m.count w) w)
-fail_on None m w t f (inl e) k = cc
-fail_on None m w t f (inr e) k = cc
+fail_on None m w t f e k = (refl, refl)
 fail_on (Some d) m w t f (inl e) k = failed_keeps d m m w t k (rw e at k.doing) f
 fail_on (Some d) m w t f (inr e) k = failed_keeps d m m w t k (rw e at k.doing) f
 

@@ -1,5 +1,6 @@
 -- Taking the next block of a program keeps what an axis keeps.
 use Rattle.std.proofs.Common.{◌≡◌, ℕ, Bool, true, false, cond, ◌&&◌, ◌||◌, eqb, ℤ, Some, None, Ok, Err, Option, Result, sym, refl, ap, ◌∙◌, subst, arith}
+use Rattle.std.proofs.lemmas.Bool.{cond_both}
 use Rattle.reader.specs.declared.block.Block.{Block}
 use Rattle.drives.specs.Meaning.{Meaning}
 use Rattle.motion.specs.declared.raw.RawData.{RawData}
@@ -16,16 +17,9 @@ use Rattle.laws.specs.Kept.{KeptIn, OnWay, KeptWith, KeptBy, Quiet}
 use Rattle.laws.proofs.NewMove.{new_move, attains}
 
 -- of what a done block leaves, nothing is asked
-done_by : (a b : Bool) (c : Course) (d : RawData) (m : Meaning) (zero : ℤ) (r : Bool)
-    → KeptIn (cond a standing (cond b (held c None) (between c))) d m zero r
-done_by true b c d m zero r = tt
-done_by false true c d m zero r = tt
-done_by false false c d m zero r = tt
-
 pub done_keeps : (mode : ℕ) (moved : Bool) (c : Course) (d : RawData) (m : Meaning) (zero : ℤ) (r : Bool)
     → KeptIn (done_with mode moved c) d m zero r
-done_keeps mode moved c d m zero r =
-    done_by (ends_by c.auxiliary) (holds_by c.auxiliary || (moved && eqb mode 9)) c d m zero r
+done_keeps mode moved c d m zero r = grind arith
 
 module _ (d : RawData) (m : Meaning) (w : Work) (k : KeptWith d m w) where
   -- a block with X, accepted or refused
@@ -74,14 +68,6 @@ next_mode : (b : Option Block) (c : Course) (m : Meaning) (o : Option RawData) (
 next_mode b c m o w = grind arith
 
 -- a program runs in mode 8 or 9, where nothing is asked of what shows
-in_program : (w v : Work) (c : Course) → w.phase ≡ between c → v.mode ≡ w.mode → Quiet w → Quiet v
-in_program w v c e h q n =
-    let p = q (ap (λ (x : ℕ). eqb x 8 || eqb x 9) (sym h) ∙ n) in
-    let f = p.1 in
-    let g : course_of w.phase ≡ Some c = ap course_of e in
-    let z : ◌≡◌ {A = ℕ} 0 1 = cc in
-    absurd (omega arith)
-
 pub take_quiet : (o : Option RawData) (b : Option Block) (c : Course) (m : Meaning) (w : Work) → w.phase ≡ between c
     → Quiet w → Quiet (next_run b c m o w)
-take_quiet o b c m w e q = in_program w (next_run b c m o w) c e (next_mode b c m o w) q
+take_quiet o b c m w e q = λ n. let p = q (rw (next_mode b c m o w) at n) in let f = rw e at p.1 in cc
