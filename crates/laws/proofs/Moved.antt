@@ -17,13 +17,11 @@ use Rattle.laws.proofs.Taking.{done_keeps}
 
 -- what is left of a program after a move asks nothing, or a target that the move had
 after_keeps : (o : Option Course) (mode : ℕ) (d : RawData) (m : Meaning) (zero : ℤ) (r : Bool) → KeptIn (after_move mode o) d m zero r
-after_keeps None mode d m zero r = tt
-after_keeps (Some c) mode d m zero r = done_keeps mode true c d m zero r
+after_keeps o mode d m zero r = grind arith
 
 short_keeps : (o : Option Course) (d : RawData) (m : Meaning) (zero : ℤ) (r : Bool) (t : Travel) → OnWay d m zero r t
     → KeptIn (stopped_short t.target o) d m zero r
-short_keeps None d m zero r t w = tt
-short_keeps (Some c) d m zero r t w = w.target
+short_keeps o d m zero r t w = grind arith
 
 -- where a move is, with the drive m: after a tick of motion, a braking tick, and trouble
 module _ (d : RawData) (m n : Meaning) (w : Work) (t : Travel) (k : KeptWith d n w) (o : OnWay d m w.zero w.referenced t) where

@@ -7,7 +7,8 @@ use Rattle.motion.specs.declared.raw.RawData.{RawData}
 use Rattle.reader.specs.Words.{ends_by}
 use Rattle.states.specs.declared.aim.Aim.{Aim}
 use Rattle.states.specs.declared.fault.Cause.{Cause}
-use Rattle.states.specs.State.{Course, standing, held, between, Work, course_of}
+use Rattle.states.specs.declared.fault.AxisFault.{AxisFault}
+use Rattle.states.specs.State.{Course, Phase, standing, held, between, Work, course_of}
 use Rattle.states.specs.Moves.{aim_for, move_questions}
 use Rattle.states.specs.Courses.{course_rate}
 use Rattle.states.specs.Effects.{travel_to}
@@ -22,6 +23,12 @@ pub done_keeps : (mode : ℕ) (moved : Bool) (c : Course) (d : RawData) (m : Mea
 done_keeps mode moved c d m zero r = grind arith
 
 module _ (d : RawData) (m : Meaning) (w : Work) (k : KeptWith d m w) where
+  -- with the axis where it is, only what it does is to be shown
+  doing_keeps : {mode auxiliary : ℕ} {fault : Option AxisFault} {in_position : Bool} {p : Phase}
+      → KeptIn p d m w.zero w.referenced
+      → KeptWith d m (record { mode = mode; auxiliary = auxiliary; fault = fault; offset = w.offset; tool = w.tool; coordinate = w.coordinate; zero = w.zero; referenced = w.referenced; in_position = in_position; phase = p })
+  doing_keeps h = record { range = k.range; agree = k.agree; drift = k.drift; limits = k.limits; doing = h }
+
   -- a block with X, accepted or refused
   begun_keeps : (v : Result Aim Cause) (c : Course) (x : ℤ) → block_verdict (Some d) c x m w ≡ v
       → KeptWith d m (begun_with v (Some d) c w)
@@ -30,31 +37,16 @@ module _ (d : RawData) (m : Meaning) (w : Work) (k : KeptWith d m w) where
       let target = block_target d c x w in
       let q = accepted (move_questions d rate target m w.zero w.referenced) (aim_for d rate target m w.zero) aim e in
       let a = attains d rate target m w.zero w.referenced q.0 in
-      record {
-        range = k.range;
-        agree = k.agree;
-        drift = k.drift;
-        limits = k.limits;
-        doing =
-            subst (λ (i : Aim). OnWay d m w.zero w.referenced (travel_to (Some d) i (Some c) w)) q.1
-            (new_move d m w rate target (Some c) k a);
-      }
-  begun_keeps (Err cause) c x e =
-      record { range = k.range; agree = k.agree; drift = k.drift; limits = k.limits; doing = tt }
+      doing_keeps (rw (← q.1) (new_move d m w rate target (Some c) k a))
+  begun_keeps (Err cause) c x e = doing_keeps tt
 
   -- a block with or without X
   block_keeps : (x : Option ℤ) (c : Course) → KeptWith d m (block_run x c m (Some d) w)
-  block_keeps None c = record {
-    range = k.range;
-    agree = k.agree;
-    drift = k.drift;
-    limits = k.limits;
-    doing = done_keeps w.mode false c d m w.zero w.referenced;
-  }
+  block_keeps None c = doing_keeps (done_keeps w.mode false c d m w.zero w.referenced)
   block_keeps (Some x) c = begun_keeps (block_verdict (Some d) c x m w) c x refl
 
   next_keeps : (b : Option Block) (c : Course) → KeptWith d m (next_run b c m (Some d) w)
-  next_keeps None c = record { range = k.range; agree = k.agree; drift = k.drift; limits = k.limits; doing = tt }
+  next_keeps None c = doing_keeps tt
   next_keeps (Some b) c = block_keeps b.target (with_words b c)
 
 -- without machine data no program runs
