@@ -13,15 +13,10 @@ use Rattle.states.specs.Moves.{direction_of, ticked_in, braked_in}
 use Rattle.ticks.specs.Moving.{placed, at, with_going, after_move, stopped_short, ran, slowed, failed, sent_on}
 use Rattle.laws.specs.Kept.{KeptIn, OnWay, KeptWith, KeptBy, Quiet}
 use Rattle.laws.proofs.Passing.{Follows, ticked_follows, braked_follows, taken, sound_on, way_on, on_drift, on_limits, end-drift}
-use Rattle.laws.proofs.Taking.{done_keeps}
 
--- what is left of a program after a move asks nothing, or a target that the move had
+-- what is left of a program after a move asks nothing
 after_keeps : (o : Option Course) (mode : ℕ) (d : RawData) (m : Meaning) (zero : ℤ) (r : Bool) → KeptIn (after_move mode o) d m zero r
 after_keeps o mode d m zero r = grind arith
-
-short_keeps : (o : Option Course) (d : RawData) (m : Meaning) (zero : ℤ) (r : Bool) (t : Travel) → OnWay d m zero r t
-    → KeptIn (stopped_short t.target o) d m zero r
-short_keeps o d m zero r t w = grind arith
 
 -- where a move is, with the drive m: after a tick of motion, a braking tick, and trouble
 module _ (d : RawData) (m n : Meaning) (w : Work) (t : Travel) (k : KeptWith d n w) (o : OnWay d m w.zero w.referenced t) where
@@ -57,8 +52,7 @@ module _ (d : RawData) (m n : Meaning) (w : Work) (t : Travel) (g : Going) (k : 
 
   slowed_keeps : (b : Bool) → KeptWith d m (slowed b g t m.count (Some d) w)
   slowed_keeps true =
-      placed_keeps d m n w (with_going g t) k o (stopped_short t.target t.course)
-      (short_keeps t.course d m w.zero w.referenced (with_going g t) o)
+      placed_keeps d m n w (with_going g t) k o (stopped_short t.target t.course) (grind arith)
   slowed_keeps false = placed_keeps d m n w (with_going g t) k o (braking (with_going g t)) o
 
 -- every pulse is taken

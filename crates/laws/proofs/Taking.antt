@@ -17,11 +17,6 @@ use Rattle.ticks.specs.Blocks.{holds_by, done_with, with_words, block_target, bl
 use Rattle.laws.specs.Kept.{KeptIn, OnWay, KeptWith, KeptBy, Quiet}
 use Rattle.laws.proofs.NewMove.{new_move, attains}
 
--- of what a done block leaves, nothing is asked
-pub done_keeps : (mode : ℕ) (moved : Bool) (c : Course) (d : RawData) (m : Meaning) (zero : ℤ) (r : Bool)
-    → KeptIn (done_with mode moved c) d m zero r
-done_keeps mode moved c d m zero r = grind arith
-
 module _ (d : RawData) (m : Meaning) (w : Work) (k : KeptWith d m w) where
   -- with the axis where it is, only what it does is to be shown
   doing_keeps : {mode auxiliary : ℕ} {fault : Option AxisFault} {in_position : Bool} {p : Phase}
@@ -42,7 +37,7 @@ module _ (d : RawData) (m : Meaning) (w : Work) (k : KeptWith d m w) where
 
   -- a block with or without X
   block_keeps : (x : Option ℤ) (c : Course) → KeptWith d m (block_run x c m (Some d) w)
-  block_keeps None c = doing_keeps (done_keeps w.mode false c d m w.zero w.referenced)
+  block_keeps None c = doing_keeps (grind arith)
   block_keeps (Some x) c = begun_keeps (block_verdict (Some d) c x m w) c x refl
 
   next_keeps : (b : Option Block) (c : Course) → KeptWith d m (next_run b c m (Some d) w)
