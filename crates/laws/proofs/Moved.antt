@@ -99,12 +99,7 @@ fail_on (Some d) m w t f (inr e) k = failed_keeps d m m w t k (rw e at k.doing) 
 -- what shows: mode and M number stay, and where no program ran none runs
 module _ (w : Work) (t : Travel) (e : course_of w.phase ≡ t.course) (q : Quiet w) where
   pub ran_quiet : (b : Bool) (g : Going) (count : ℤ) (o : Option RawData) → Quiet (ran b g t count o w)
-  ran_quiet true g count o = λ n. let p = q n in (p.0, rw (sym e ∙ p.1))
-  ran_quiet false g count o = λ n. let p = q n in (p.0, sym e ∙ p.1)
+  ran_quiet b g count o = grind (arith, q)
 
   pub slowed_quiet : (b : Bool) (g : Going) (count : ℤ) (o : Option RawData) → Quiet (slowed b g t count o w)
-  slowed_quiet true g count o = λ n. let p = q n in (p.0, rw (sym e ∙ p.1))
-  slowed_quiet false g count o = λ n. let p = q n in (p.0, sym e ∙ p.1)
-
-pub failed_quiet : (w : Work) (f : AxisFault) (c : ℤ) → Quiet w → Quiet (failed f c w)
-failed_quiet w f c q = λ n. ((q n).0, refl)
+  slowed_quiet b g count o = grind (arith, q)

@@ -11,7 +11,7 @@ use Rattle.ticks.specs.Ticks.{with_status, trouble_of, unless_trouble, run_step,
 use Rattle.laws.specs.Kept.{Kept}
 use Rattle.laws.specs.Laws.{TakenIn}
 use Rattle.laws.proofs.Taking.{take_keeps, take_quiet}
-use Rattle.laws.proofs.Moved.{run_on, slow_on, fail_on, ran_quiet, slowed_quiet, failed_quiet}
+use Rattle.laws.proofs.Moved.{run_on, slow_on, fail_on, ran_quiet, slowed_quiet}
 
 -- the tick by what the axis is doing, trouble first
 unless_keeps : (o : Option Cause) (t : Travel) (a next : AxisState) → trouble_of t a ≡ o
@@ -56,8 +56,7 @@ module _ (a : AxisState) (k : Kept a) (t : Travel) where
   move_failed e c = record {
     drive = k.drive;
     holds = fail_on a.status.machine a.drive a.status.work t (fault_in t.course c) e k.holds;
-    shown =
-        failed_quiet a.status.work (fault_in t.course c) (placed a.status.machine t a.drive.count a.status.work) k.shown;
+    shown = λ n. ((k.shown n).0, refl);
   }
 
 tick_by : (ph : Phase) (p : Programs) (a : AxisState) → a.status.work.phase ≡ ph → Kept a → Kept (tick_at ph p a)
