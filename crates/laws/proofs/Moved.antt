@@ -95,11 +95,3 @@ pub fail_on : (o : Option RawData) (m : Meaning) (w : Work) (t : Travel) (f : Ax
 fail_on None m w t f e k = (refl, refl)
 fail_on (Some d) m w t f (inl e) k = failed_keeps d m m w t k (rw e at k.doing) f
 fail_on (Some d) m w t f (inr e) k = failed_keeps d m m w t k (rw e at k.doing) f
-
--- what shows: mode and M number stay, and where no program ran none runs
-module _ (w : Work) (t : Travel) (e : course_of w.phase ≡ t.course) (q : Quiet w) where
-  pub ran_quiet : (b : Bool) (g : Going) (count : ℤ) (o : Option RawData) → Quiet (ran b g t count o w)
-  ran_quiet b g count o = grind (arith, q)
-
-  pub slowed_quiet : (b : Bool) (g : Going) (count : ℤ) (o : Option RawData) → Quiet (slowed b g t count o w)
-  slowed_quiet b g count o = grind (arith, q)

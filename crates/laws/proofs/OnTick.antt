@@ -11,7 +11,7 @@ use Rattle.ticks.specs.Ticks.{with_status, trouble_of, unless_trouble, run_step,
 use Rattle.laws.specs.Kept.{Kept}
 use Rattle.laws.specs.Laws.{TakenIn}
 use Rattle.laws.proofs.Taking.{take_keeps, take_quiet}
-use Rattle.laws.proofs.Moved.{run_on, slow_on, fail_on, ran_quiet, slowed_quiet}
+use Rattle.laws.proofs.Moved.{run_on, slow_on, fail_on}
 
 -- the tick by what the axis is doing, trouble first
 unless_keeps : (o : Option Cause) (t : Travel) (a next : AxisState) → trouble_of t a ≡ o
@@ -33,9 +33,7 @@ module _ (a : AxisState) (k : Kept a) (t : Travel) where
       record {
         drive = h.0;
         holds = h.1;
-        shown =
-            ran_quiet a.status.work t (ap course_of e) k.shown (eqb g.step 0) g (sent_on t g a.drive).count
-            a.status.machine;
+        shown = grind (arith, e, k.shown);
       }
 
   braking-ran : a.status.work.phase ≡ braking t → trouble_of t a ≡ None
@@ -46,9 +44,7 @@ module _ (a : AxisState) (k : Kept a) (t : Travel) where
       record {
         drive = h.0;
         holds = h.1;
-        shown =
-            slowed_quiet a.status.work t (ap course_of e) k.shown (eqb g.step 0) g (sent_on t g a.drive).count
-            a.status.machine;
+        shown = grind (arith, e, k.shown);
       }
 
   move_failed : (a.status.work.phase ≡ moving t) ⊎ (a.status.work.phase ≡ braking t) → (c : Cause)

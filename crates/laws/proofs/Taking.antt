@@ -50,11 +50,7 @@ pub take_keeps : (o : Option RawData) (b : Option Block) (c : Course) (m : Meani
 take_keeps None b c m w e k = cc
 take_keeps (Some d) b c m w e k = next_keeps d m w k b c
 
--- the mode stays
-next_mode : (b : Option Block) (c : Course) (m : Meaning) (o : Option RawData) (w : Work) → (next_run b c m o w).mode ≡ w.mode
-next_mode b c m o w = grind arith
-
--- a program runs in mode 8 or 9, where nothing is asked of what shows
+-- a program runs in mode 8 or 9, where nothing is asked of what shows, and the mode stays
 pub take_quiet : (o : Option RawData) (b : Option Block) (c : Course) (m : Meaning) (w : Work) → w.phase ≡ between c
     → Quiet w → Quiet (next_run b c m o w)
-take_quiet o b c m w e q = λ n. let p = q (rw (next_mode b c m o w) at n) in let f = rw e at p.1 in cc
+take_quiet o b c m w e q = grind (arith, q)
