@@ -1,17 +1,17 @@
 -- What a tick of a move leaves: it keeps what an axis keeps, and the drive takes every pulse of it.
-use Rattle.std.proofs.Common.{◌≡◌, ℕ, Bool, true, false, ◌||◌, eqb, ℤ, Some, None, Ok, Option, sym, refl, ap, ◌∙◌, subst, arith, ◌⊎◌, inl, inr}
+use Rattle.std.proofs.Common.{◌≡◌, ℕ, Bool, true, false, eqb, ℤ, Some, None, Ok, Option, refl, arith, ◌⊎◌, inl, inr}
 use Rattle.std.proofs.lemmas.Bool.{eqb-true}
 use Rattle.drives.specs.Meaning.{Meaning, Sound}
 use Rattle.drives.specs.Sending.{told}
 use Rattle.motion.specs.declared.raw.RawData.{RawData}
 use Rattle.motion.specs.Ramp.{ramp_of}
-use Rattle.motion.specs.Travel.{Going, ticked, passing}
+use Rattle.motion.specs.Travel.{Going, passing}
 use Rattle.motion.proofs.Runs.{tick-ends}
 use Rattle.states.specs.declared.fault.AxisFault.{AxisFault}
-use Rattle.states.specs.State.{Course, Travel, Phase, moving, braking, Work, course_of}
+use Rattle.states.specs.State.{Course, Travel, Phase, moving, braking, Work}
 use Rattle.states.specs.Moves.{direction_of, ticked_in, braked_in}
 use Rattle.ticks.specs.Moving.{placed, at, with_going, after_move, stopped_short, ran, slowed, failed, sent_on}
-use Rattle.laws.specs.Kept.{KeptIn, OnWay, KeptWith, KeptBy, Quiet}
+use Rattle.laws.specs.Kept.{KeptIn, OnWay, KeptWith, KeptBy}
 use Rattle.laws.proofs.Passing.{Follows, ticked_follows, braked_follows, taken, sound_on, way_on, on_drift, on_limits, end-drift}
 
 -- what is left of a program after a move asks nothing

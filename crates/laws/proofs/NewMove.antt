@@ -1,19 +1,16 @@
 -- A new move: where its target can be attained, the move is on its way.
-use Rattle.std.proofs.Common.{◌≡◌, ℕ, ◌-◌, ◌*◌, ◌/◌, Bool, true, false, ◌&&◌, ℤ, pos, negsuc, ◌+ℤ◌, ◌-ℤ◌, nat_abs, ◌≤ℤ◌, Some, Option, refl, ap, ◌∙◌, subst, arith}
-use lib.Signed.{le_z}
+use Rattle.std.proofs.Common.{◌≡◌, ℕ, ◌-◌, ◌*◌, ◌/◌, Bool, ℤ, ◌+ℤ◌, ◌-ℤ◌, nat_abs, Some, Option, refl, arith}
 use Rattle.std.proofs.lemmas.Int.{ints}
-use Rattle.std.proofs.lemmas.Bool.{and_parts}
 use Rattle.drives.specs.Meaning.{Meaning}
 use Rattle.motion.specs.declared.raw.RawData.{RawData}
 use Rattle.motion.specs.Ramp.{ramp_of}
 use Rattle.motion.specs.Places.{pulses_by}
-use Rattle.motion.specs.Laws.{Near}
 use Rattle.motion.proofs.Runs.{stays-safe}
 use Rattle.states.specs.State.{Course, Work}
-use Rattle.states.specs.Moves.{begun_in, aim_for, distance_to, move_questions, lowest_of, highest_of}
+use Rattle.states.specs.Moves.{begun_in, aim_for, move_questions}
 use Rattle.states.specs.Effects.{travel_to}
 use Rattle.states.proofs.Asked.{Yes}
-use Rattle.laws.specs.Kept.{InLimits, Attainable, along, OnWay, KeptWith}
+use Rattle.laws.specs.Kept.{Attainable, along, OnWay, KeptWith}
 
 -- nothing is passed yet, and a place less the way to it is where the way began
 at-start : (D n p : ℤ) (t : ℕ) → D ≡ p -ℤ n → n ≡ (p -ℤ D) +ℤ along D ((t - t) / 1000000)

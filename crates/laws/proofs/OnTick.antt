@@ -1,16 +1,16 @@
 -- A tick keeps what an axis keeps, and the drive takes every pulse of it.
-use Rattle.std.proofs.Common.{◌≡◌, Bool, true, false, eqb, ℤ, Some, None, Option, refl, ap, ◌⊎◌, inl, inr, arith}
+use Rattle.std.proofs.Common.{◌≡◌, true, Some, None, Option, refl, ◌⊎◌, inl, inr, arith}
 use Rattle.store.specs.Programs.{Programs}
 use Rattle.states.specs.declared.fault.Cause.{Cause}
-use Rattle.states.specs.State.{Travel, Phase, standing, moving, braking, held, between, AxisState, course_of}
+use Rattle.states.specs.State.{Travel, Phase, standing, moving, braking, held, between, AxisState}
 use Rattle.states.specs.Moves.{ticked_in, braked_in}
 use Rattle.states.specs.Effects.{fault_in}
 use Rattle.ticks.specs.Blocks.{next_block}
-use Rattle.ticks.specs.Moving.{trouble, placed, fail_step, sent_on}
+use Rattle.ticks.specs.Moving.{fail_step}
 use Rattle.ticks.specs.Ticks.{with_status, trouble_of, unless_trouble, run_step, slow_step, tick_at, tick_step}
 use Rattle.laws.specs.Kept.{Kept}
 use Rattle.laws.specs.Laws.{TakenIn}
-use Rattle.laws.proofs.Taking.{take_keeps, take_quiet}
+use Rattle.laws.proofs.Taking.{take_keeps}
 use Rattle.laws.proofs.Moved.{run_on, slow_on, fail_on}
 
 -- the tick by what the axis is doing, trouble first
@@ -67,7 +67,7 @@ tick_by (held c u) p a e k = k
 tick_by (between c) p a e k = record {
   drive = k.drive;
   holds = take_keeps a.status.machine (next_block p c) c a.drive a.status.work e k.holds;
-  shown = take_quiet a.status.machine (next_block p c) c a.drive a.status.work e k.shown;
+  shown = grind (arith, e, k.shown);
 }
 
 pub tick_keeps : (p : Programs) (a : AxisState) → Kept a → Kept (tick_step p a)

@@ -1,5 +1,5 @@
 -- One tick of a move: its pulses are taken, the move stays on its way, and the coordinate stays near and within the limits.
-use Rattle.std.proofs.Common.{◌≡◌, ℕ, ◌-◌, ◌*◌, ◌/◌, ◌≤◌, Bool, true, ℤ, pos, negsuc, ◌+ℤ◌, ◌-ℤ◌, nat_abs, ◌≤ℤ◌, Some, Ok, sym, refl, ◌∙◌, subst, arith}
+use Rattle.std.proofs.Common.{◌≡◌, ℕ, ◌-◌, ◌≤◌, Bool, true, ℤ, pos, negsuc, ◌+ℤ◌, ◌-ℤ◌, nat_abs, ◌≤ℤ◌, Some, Ok, refl, ◌∙◌, arith}
 use Rattle.std.proofs.lemmas.Int.{ints, clamps}
 use Rattle.drives.specs.Meaning.{Meaning, Sound, at}
 use Rattle.drives.specs.Sending.{told}
@@ -7,12 +7,11 @@ use Rattle.laws.proofs.Sent.{gone, Within, all-sent, all_told}
 use Rattle.motion.specs.declared.raw.RawData.{RawData}
 use Rattle.motion.specs.Data.{InRange}
 use Rattle.motion.specs.Ramp.{Ramp, ramp_of}
-use Rattle.motion.specs.Places.{pulses_by, nearest_by}
-use Rattle.motion.specs.Travel.{Going, ticked, braked, passed_in, passing, chosen}
+use Rattle.motion.specs.Places.{pulses_by}
+use Rattle.motion.specs.Travel.{Going, ticked, braked, passed_in, passing}
 use Rattle.motion.specs.Laws.{Near, Between, Safe}
-use Rattle.motion.proofs.Choice.{left_keeps}
-use Rattle.motion.proofs.Drift.{drift, arrives, held-between}
-use Rattle.motion.proofs.Runs.{stays-safe, chosen-way}
+use Rattle.motion.proofs.Drift.{drift, arrives}
+use Rattle.motion.proofs.Runs.{stays-safe}
 use Rattle.states.specs.State.{Travel}
 use Rattle.states.specs.Moves.{placed_in, direction_of}
 use Rattle.ticks.specs.Moving.{with_going, sent_on}

@@ -1,10 +1,10 @@
 -- Pulses that a drive is sent and that all have room: each is accepted.
-use Rattle.std.proofs.Common.{◌≡◌, ℕ, zero, suc, true, pos, neg_ℤ, ℤ, ◌+ℤ◌, ◌≤ℤ◌, Ok, refl, ap, ◌∙◌, arith}
+use Rattle.std.proofs.Common.{◌≡◌, ℕ, zero, suc, true, pos, neg_ℤ, ℤ, ◌+ℤ◌, ◌≤ℤ◌, Ok, refl, arith}
 use Rattle.std.proofs.lemmas.Int.{ints}
 use Rattle.drives.specs.declared.direction.Direction.{Direction}
 use Rattle.drives.specs.declared.direction.Direction.TheVariants.{Forward, Backward}
-use Rattle.drives.specs.Meaning.{Meaning, Sound, at, answered}
-use Rattle.drives.specs.Sending.{sent, told, reached}
+use Rattle.drives.specs.Meaning.{Meaning, Sound, at}
+use Rattle.drives.specs.Sending.{sent, told}
 use Rattle.drives.proofs.Sends.{reach}
 
 -- the count after k accepted pulses

@@ -1,20 +1,17 @@
 -- Taking the next block of a program keeps what an axis keeps.
-use Rattle.std.proofs.Common.{◌≡◌, ℕ, Bool, true, false, cond, ◌&&◌, ◌||◌, eqb, ℤ, Some, None, Ok, Err, Option, Result, sym, refl, ap, ◌∙◌, subst, arith}
-use Rattle.std.proofs.lemmas.Bool.{cond_both}
+use Rattle.std.proofs.Common.{◌≡◌, ℕ, Bool, ℤ, Some, None, Ok, Err, Option, Result, refl, arith}
 use Rattle.reader.specs.declared.block.Block.{Block}
 use Rattle.drives.specs.Meaning.{Meaning}
 use Rattle.motion.specs.declared.raw.RawData.{RawData}
-use Rattle.reader.specs.Words.{ends_by}
 use Rattle.states.specs.declared.aim.Aim.{Aim}
 use Rattle.states.specs.declared.fault.Cause.{Cause}
 use Rattle.states.specs.declared.fault.AxisFault.{AxisFault}
-use Rattle.states.specs.State.{Course, Phase, standing, held, between, Work, course_of}
+use Rattle.states.specs.State.{Course, Phase, between, Work}
 use Rattle.states.specs.Moves.{aim_for, move_questions}
 use Rattle.states.specs.Courses.{course_rate}
-use Rattle.states.specs.Effects.{travel_to}
 use Rattle.states.proofs.Asked.{accepted}
-use Rattle.ticks.specs.Blocks.{holds_by, done_with, with_words, block_target, block_verdict, begun_with, block_run, next_run}
-use Rattle.laws.specs.Kept.{KeptIn, OnWay, KeptWith, KeptBy, Quiet}
+use Rattle.ticks.specs.Blocks.{with_words, block_target, block_verdict, begun_with, block_run, next_run}
+use Rattle.laws.specs.Kept.{KeptIn, KeptWith, KeptBy}
 use Rattle.laws.proofs.NewMove.{new_move, attains}
 
 module _ (d : RawData) (m : Meaning) (w : Work) (k : KeptWith d m w) where
@@ -49,8 +46,3 @@ pub take_keeps : (o : Option RawData) (b : Option Block) (c : Course) (m : Meani
     → KeptBy o m w → KeptBy o m (next_run b c m o w)
 take_keeps None b c m w e k = cc
 take_keeps (Some d) b c m w e k = next_keeps d m w k b c
-
--- a program runs in mode 8 or 9, where nothing is asked of what shows, and the mode stays
-pub take_quiet : (o : Option RawData) (b : Option Block) (c : Course) (m : Meaning) (w : Work) → w.phase ≡ between c
-    → Quiet w → Quiet (next_run b c m o w)
-take_quiet o b c m w e q = grind (arith, q)
