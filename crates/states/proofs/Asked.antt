@@ -1,5 +1,5 @@
 -- Lists of questions: what an accepted and a refused list say, whatever is answered at the end.
-use Rattle.std.proofs.Common.{◌≡◌, true, [], ◌∷◌, Ok, Err, refl, arith}
+use Rattle.std.proofs.Common.{◌≡◌, true, [], ◌∷◌, Ok, Err, arith}
 use Rattle.states.specs.declared.fault.Cause.{Cause}
 use Rattle.states.specs.Moves.{Questions, ◌asks◌}
 
@@ -11,14 +11,6 @@ Yes (q ∷ qs) = (q.0 ≡ true) × Yes qs
 pub accepted : {A : Type 0} (qs : Questions) (a x : A) → qs asks Ok a ≡ Ok x → Yes qs × (a ≡ x)
 accepted [] a x p = (tt, cc)
 accepted (q ∷ qs) a x p = grind (arith, accepted qs a x)
-
-pub passed : {A : Type 0} (qs : Questions) (a : A) → Yes qs → qs asks Ok a ≡ Ok a
-passed [] a y = refl
-passed (q ∷ qs) a y = cc (passed qs a y.1)
-
--- an accepted list answers alike with another answer at its end
-pub carried : {A B : Type 0} (f : A → B) (qs : Questions) (a x : A) → qs asks Ok a ≡ Ok x → qs asks Ok (f a) ≡ Ok (f x)
-carried f qs a x p = let r = accepted qs a x p in cc (passed qs (f a) r.0)
 
 pub refused : {A B : Type 0} (qs : Questions) (a : A) (b : B) (e : Cause) → qs asks Ok a ≡ Err e → qs asks Ok b ≡ Err e
 refused [] a b e p = cc
