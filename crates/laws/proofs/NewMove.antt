@@ -1,15 +1,15 @@
 -- A new move: where its target can be attained, the move is on its way.
-use Rattle.std.proofs.Common.{◌≡◌, ℕ, ◌-◌, ◌*◌, ◌/◌, Bool, ℤ, ◌+ℤ◌, ◌-ℤ◌, nat_abs, Some, Option, refl, arith}
+use Rattle.std.proofs.Common.{◌≡◌, ℕ, ◌-◌, ◌*◌, ◌/◌, Bool, ℤ, ◌+ℤ◌, ◌-ℤ◌, nat_abs, Some, Ok, Option, refl, arith}
 use Rattle.std.proofs.lemmas.Int.{ints}
 use Rattle.drives.specs.Meaning.{Meaning}
 use Rattle.motion.specs.declared.raw.RawData.{RawData}
 use Rattle.motion.specs.Ramp.{ramp_of}
 use Rattle.motion.specs.Places.{pulses_by}
 use Rattle.motion.proofs.Runs.{stays-safe}
+use Rattle.states.specs.declared.aim.Aim.{Aim}
 use Rattle.states.specs.State.{Course, Work}
-use Rattle.states.specs.Moves.{begun_in, aim_for, move_questions}
+use Rattle.states.specs.Moves.{begun_in, aim_for, move_verdict}
 use Rattle.states.specs.Effects.{travel_to}
-use Rattle.states.proofs.Asked.{Yes}
 use Rattle.laws.specs.Kept.{Attainable, along, OnWay, KeptWith}
 
 -- nothing is passed yet, and a place less the way to it is where the way began
@@ -34,10 +34,13 @@ new_move d m w rate target c k a =
       start = k.limits;
     }
 
--- a target of which all is answered yes can be attained
-pub attains : (d : RawData) (rate : ℕ) (target : ℤ) (m : Meaning) (zero : ℤ) (referenced : Bool)
-    → Yes (move_questions d rate target m zero referenced) → Attainable d m zero referenced target
-attains d rate target m zero referenced y = record {
-  ends = grind (arith, ints, y.1.1.0);
-  limits = λ e. grind (arith, ints, y.1.0);
-}
+-- a target for which a move is granted can be attained
+pub attains : (d : RawData) (rate : ℕ) (target : ℤ) (m : Meaning) (zero : ℤ) (referenced : Bool) (aim : Aim)
+    → move_verdict d rate target m zero referenced ≡ Ok aim → Attainable d m zero referenced target × (aim_for d rate target m zero ≡ aim)
+attains d rate target m zero referenced aim y = (
+  record {
+    ends = grind (arith, ints, y);
+    limits = λ e. grind (arith, ints, y);
+  },
+  grind (arith, y),
+)

@@ -7,9 +7,7 @@ use Rattle.states.specs.declared.aim.Aim.{Aim}
 use Rattle.states.specs.declared.fault.Cause.{Cause}
 use Rattle.states.specs.declared.fault.AxisFault.{AxisFault}
 use Rattle.states.specs.State.{Course, Phase, between, Work}
-use Rattle.states.specs.Moves.{aim_for, move_questions}
 use Rattle.states.specs.Courses.{course_rate}
-use Rattle.states.proofs.Asked.{accepted}
 use Rattle.ticks.specs.Blocks.{with_words, block_target, block_verdict, begun_with, block_run, next_run}
 use Rattle.laws.specs.Kept.{KeptIn, KeptWith, KeptBy}
 use Rattle.laws.proofs.NewMove.{new_move, attains}
@@ -27,9 +25,8 @@ module _ (d : RawData) (m : Meaning) (w : Work) (k : KeptWith d m w) where
   begun_keeps (Ok aim) c x e =
       let rate = course_rate d c in
       let target = block_target d c x w in
-      let q = accepted (move_questions d rate target m w.zero w.referenced) (aim_for d rate target m w.zero) aim e in
-      let a = attains d rate target m w.zero w.referenced q.0 in
-      doing_keeps (rw (← q.1) (new_move d m w rate target (Some c) k a))
+      let a = attains d rate target m w.zero w.referenced aim e in
+      doing_keeps (rw (← a.1) (new_move d m w rate target (Some c) k a.0))
   begun_keeps (Err cause) c x e = doing_keeps tt
 
   -- a block with or without X
