@@ -1,8 +1,13 @@
-use Rattle.std.proofs.Common.{◌≡◌, Err, sym, ◌∙◌, arith, rules}
+use Rattle.std.proofs.Common.{◌≡◌, [], ◌∷◌, Ok, Err, sym, ◌∙◌, arith, rules}
 use Rattle.motion.specs.Entry.{data_of}
-use Rattle.states.specs.Moves.{move_questions}
-use Rattle.states.proofs.Asked.{refused}
+use Rattle.states.specs.declared.fault.Cause.{Cause}
+use Rattle.states.specs.Moves.{Questions, ◌asks◌, move_questions}
 use Rattle.orders.proofs.asking.StandingRequest.go.Goals as goal
+
+-- a refused list of questions is refused whatever is answered at its end
+refused : {A B : Type 0} (qs : Questions) (a : A) (b : B) (e : Cause) → qs asks Ok a ≡ Err e → qs asks Ok b ≡ Err e
+refused [] a b e p = cc
+refused (q ∷ qs) a b e p = grind (arith, refused qs a b e)
 
 pub returns-in_err-ask_move : goal.returns-in_err-ask_move
 returns-in_err-ask_move c =
