@@ -9,7 +9,7 @@ use Rattle.ticks.specs.Blocks.{next_block}
 use Rattle.ticks.specs.Moving.{fail_step}
 use Rattle.ticks.specs.Ticks.{with_status, trouble_of, unless_trouble, run_step, slow_step, tick_at, tick_step}
 use Rattle.laws.specs.Kept.{Kept}
-use Rattle.laws.specs.Laws.{TakenIn}
+use Rattle.laws.specs.Laws.{Taken, TakenIn}
 use Rattle.laws.proofs.Taking.{take_keeps}
 use Rattle.laws.proofs.Moved.{run_on, slow_on, fail_on}
 
@@ -26,26 +26,18 @@ ready_in t a e = grind arith
 
 module _ (a : AxisState) (k : Kept a) (t : Travel) where
   moving-ran : a.status.work.phase ≡ moving t → trouble_of t a ≡ None
-      → Kept (run_step (ticked_in a.status.machine t.going) t a)
+      → Kept (run_step (ticked_in a.status.machine t.going) t a) × Taken a t (ticked_in a.status.machine t.going)
   moving-ran e n =
       let g = ticked_in a.status.machine t.going in
       let h = run_on a.status.machine a.drive a.status.work t g refl e k.holds k.drive (ready_in t a n) in
-      record {
-        drive = h.0;
-        holds = h.1;
-        shown = grind (arith, e, k.shown);
-      }
+      (record { drive = h.0; holds = h.1; shown = grind (arith, e, k.shown) }, h.2)
 
   braking-ran : a.status.work.phase ≡ braking t → trouble_of t a ≡ None
-      → Kept (slow_step (braked_in a.status.machine t.going) t a)
+      → Kept (slow_step (braked_in a.status.machine t.going) t a) × Taken a t (braked_in a.status.machine t.going)
   braking-ran e n =
       let g = braked_in a.status.machine t.going in
       let h = slow_on a.status.machine a.drive a.status.work t g refl e k.holds k.drive (ready_in t a n) in
-      record {
-        drive = h.0;
-        holds = h.1;
-        shown = grind (arith, e, k.shown);
-      }
+      (record { drive = h.0; holds = h.1; shown = grind (arith, e, k.shown) }, h.2)
 
   move_failed : (a.status.work.phase ≡ moving t) ⊎ (a.status.work.phase ≡ braking t) → (c : Cause)
       → Kept (with_status (fail_step c t a.drive.count a.status) a)
@@ -59,10 +51,10 @@ tick_by : (ph : Phase) (p : Programs) (a : AxisState) → a.status.work.phase �
 tick_by standing p a e k = k
 tick_by (moving t) p a e k =
     unless_keeps (trouble_of t a) t a (run_step (ticked_in a.status.machine t.going) t a) refl
-    (move_failed a k t (inl e)) (moving-ran a k t e)
+    (move_failed a k t (inl e)) (λ n. (moving-ran a k t e n).0)
 tick_by (braking t) p a e k =
     unless_keeps (trouble_of t a) t a (slow_step (braked_in a.status.machine t.going) t a) refl
-    (move_failed a k t (inr e)) (braking-ran a k t e)
+    (move_failed a k t (inr e)) (λ n. (braking-ran a k t e n).0)
 tick_by (held c u) p a e k = k
 tick_by (between c) p a e k = record {
   drive = k.drive;
@@ -75,12 +67,8 @@ tick_keeps p a k = tick_by a.status.work.phase p a refl k
 
 taken_by : (ph : Phase) (a : AxisState) → a.status.work.phase ≡ ph → Kept a → TakenIn ph a
 taken_by standing a e k = tt
-taken_by (moving t) a e k = λ n.
-    (run_on a.status.machine a.drive a.status.work t (ticked_in a.status.machine t.going) refl e k.holds k.drive
-    (ready_in t a n)).2
-taken_by (braking t) a e k = λ n.
-    (slow_on a.status.machine a.drive a.status.work t (braked_in a.status.machine t.going) refl e k.holds k.drive
-    (ready_in t a n)).2
+taken_by (moving t) a e k = λ n. (moving-ran a k t e n).1
+taken_by (braking t) a e k = λ n. (braking-ran a k t e n).1
 taken_by (held c u) a e k = tt
 taken_by (between c) a e k = tt
 

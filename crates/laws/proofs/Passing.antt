@@ -24,8 +24,7 @@ pub record Follows (f : Ramp) (g h : Going) : Type 0 where
   pub safe : Safe f h
 
 pub ticked_follows : (f : Ramp) (g : Going) → Safe f g → Follows f g (ticked f g)
-ticked_follows f g s =
-    record { total = refl; less = grind arith; safe = (stays-safe f).1 g s }
+ticked_follows f g s = record { total = refl; less = grind arith; safe = (stays-safe f).1 g s }
 
 pub braked_follows : (f : Ramp) (g : Going) → Safe f g → Follows f g (braked f g)
 braked_follows f g s = record { total = refl; less = omega arith; safe = (stays-safe f).2 g s }

@@ -16,7 +16,18 @@ module _ (d : RawData) (m : Meaning) (w : Work) (k : KeptWith d m w) where
   -- with the axis where it is, only what it does is to be shown
   doing_keeps : {mode auxiliary : ℕ} {fault : Option AxisFault} {in_position : Bool} {p : Phase}
       → KeptIn p d m w.zero w.referenced
-      → KeptWith d m (record { mode = mode; auxiliary = auxiliary; fault = fault; offset = w.offset; tool = w.tool; coordinate = w.coordinate; zero = w.zero; referenced = w.referenced; in_position = in_position; phase = p })
+      → KeptWith d m (record {
+        mode = mode;
+        auxiliary = auxiliary;
+        fault = fault;
+        offset = w.offset;
+        tool = w.tool;
+        coordinate = w.coordinate;
+        zero = w.zero;
+        referenced = w.referenced;
+        in_position = in_position;
+        phase = p;
+      })
   doing_keeps h = record { range = k.range; agree = k.agree; drift = k.drift; limits = k.limits; doing = h }
 
   -- a block with X, accepted or refused
