@@ -8,8 +8,9 @@ use Rattle.motion.specs.Places.{pulses_by}
 use Rattle.motion.proofs.Runs.{stays-safe}
 use Rattle.states.specs.declared.aim.Aim.{Aim}
 use Rattle.states.specs.State.{Course, Work}
-use Rattle.states.specs.Moves.{begun_in, aim_for, move_verdict}
+use Rattle.states.specs.Moves.{begun_in, aim_for, move_verdict, move_questions}
 use Rattle.states.specs.Effects.{travel_to}
+use Rattle.laws.proofs.Asked.{Yes, accepted}
 use Rattle.laws.specs.Kept.{Attainable, along, OnWay, KeptWith}
 
 -- nothing is passed yet, and a place less the way to it is where the way began
@@ -34,13 +35,17 @@ new_move d m w rate target c k a =
       start = k.limits;
     }
 
--- a target for which a move is granted can be attained
+-- a target of which all is answered yes can be attained
+pub attained : (d : RawData) (rate : ℕ) (target : ℤ) (m : Meaning) (zero : ℤ) (referenced : Bool)
+    → Yes (move_questions d rate target m zero referenced) → Attainable d m zero referenced target
+attained d rate target m zero referenced y = record {
+  ends = grind (arith, ints, y);
+  limits = λ e. grind (arith, ints, y);
+}
+
+-- and so can one for which a move is granted
 pub attains : (d : RawData) (rate : ℕ) (target : ℤ) (m : Meaning) (zero : ℤ) (referenced : Bool) (aim : Aim)
     → move_verdict d rate target m zero referenced ≡ Ok aim → Attainable d m zero referenced target × (aim_for d rate target m zero ≡ aim)
-attains d rate target m zero referenced aim y = (
-  record {
-    ends = grind (arith, ints, y);
-    limits = λ e. grind (arith, ints, y);
-  },
-  grind (arith, y),
-)
+attains d rate target m zero referenced aim y =
+    let q = accepted (move_questions d rate target m zero referenced) (aim_for d rate target m zero) aim y in
+    (attained d rate target m zero referenced q.0, q.1)
