@@ -82,7 +82,7 @@ def lines(title, pattern, but=None):
 def kinds():
     lines("enums", r"^\s*(pub(\([a-z]+\))? )?enum ")
     lines("flags", r"^\s+(pub(\([a-z]+\))? )?[a-z_]+: bool,|let mut [a-z_]+ = (false|true)")
-    lines("numbers for kinds", r"(mode|number|number\(\)|axis) (==|!=) [0-9]|mode: u8|Some\((0|2|30)\)|match (mode|axis|call\.axis\(\))\b", r"ghost|ensures|requires")
+    lines("numbers for kinds", r"(mode|number|number\(\)|axis) (==|!=) [0-9]|mode: u8|Some\((0|2|30)\)|match (mode|axis|call\.axis)\b", r"ghost|ensures|requires")
     lines("tuples as errors", r"Result<.*, \(.*\)>|back\.1")
 
 
@@ -103,7 +103,7 @@ def buffers():
 
 
 def steps():
-    lines("enums that choose", r"^\s*(pub(\([a-z]+\))? )?enum (Run|Act|Ask|Call|Plan|ProgramCall)\b")
+    lines("enums that choose", r"^\s*(pub(\([a-z]+\))? )?enum (Run|Act|Ask|Call|Plan|ProgramCall|ProgramAsk)\b")
     lines("flags as parameters", r"[(,] *[a-z_]+: bool[,)]|^\s+[a-z_]+: bool,$")
     seen = defaultdict(list)
     for path, line, name, _head, body in functions():

@@ -15,7 +15,9 @@ use store::Store;
 use ticks::blocks::take;
 use ticks::moving::{direction_of, fail, is_ahead, settle, settle_braking};
 
-// A tick and a braking tick differ in what they run and in what they leave, and share what is between.
+// Functions over an axis's drive and its record, since their contracts name the move in progress, of which
+// the axis tells only while it moves. A tick and a braking tick differ in what they run and in what they
+// leave; with closures for both no line would be saved.
 
 // Sends the pulses of a tick. A refused one leaves the drive as it is, and so does each after it.
 fn pulse<D: Drive>(drive: &mut D, journey: Journey, pulses: u64) -> Reading
@@ -53,10 +55,11 @@ impl<D: Drive> Axis<D> {
     {
         let reading = self.reading();
         let levels = self.levels();
-        // The two arms of a move ask for trouble alike: a step of its own for that, which changes the axis and returns early, gets no proof by itself.
+        // The two arms of a move ask for trouble alike. One arm for both would match the state again, and a
+        // step of its own, which changes the axis and returns early, gets no proof by itself.
         match (self.status.work.state, levels) {
             (State::Standing, _) | (State::Held(_), _) => Ok(()),
-            (State::BetweenBlocks(run), _) => { take(&mut self.status, reading, store, run) }
+            (State::BetweenBlocks(run), _) => take(&mut self.status, reading, store, run),
             (State::Moving(journey), levels) => {
                 if let Some(cause) = trouble(journey, levels) {
                     return Err(fail(&mut self.status, journey, reading, cause));
@@ -89,7 +92,7 @@ fn trouble(journey: Journey, levels: Levels) -> Option<Cause>
     ensures { result ≡ trouble_for journey.distance levels.ready levels.switches.begin levels.switches.end }
 {
     if !levels.ready {
-        return Some(Cause::OfDrive(DriveFault::NotReadyInMotion));
+        return Some(DriveFault::NotReadyInMotion.into());
     }
     if is_ahead(journey, levels.switches) {
         return Some(Cause::SwitchAhead);

@@ -13,7 +13,7 @@ use Rattle.states.specs.Mode.{mode_of}
 use Rattle.states.specs.State.{Course, Travel, Phase, braking, Work, Status, AxisState, stands, brakes, stopped}
 use Rattle.states.specs.Moves.{braked_in}
 use Rattle.states.specs.Entry.{cleared, with_data, data_refusal, some_data, unless}
-use Rattle.states.proofs.Asked.{Yes, accepted}
+use Rattle.laws.proofs.Asked.{Yes, accepted}
 use Rattle.orders.specs.declared.plan.Plan.{Plan}
 use Rattle.orders.specs.declared.plan.Plan.TheVariants.{Halt}
 use Rattle.orders.specs.Modes.{stops}

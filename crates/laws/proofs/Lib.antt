@@ -1,3 +1,4 @@
+pub mod Asked
 pub mod Sent
 pub mod NewMove
 pub mod Passing

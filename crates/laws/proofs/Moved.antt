@@ -1,31 +1,43 @@
 -- What a tick of a move leaves: it keeps what an axis keeps, and the drive takes every pulse of it.
-use Rattle.std.proofs.Common.{◌≡◌, ℕ, Bool, true, false, ◌||◌, eqb, ℤ, Some, None, Ok, Option, sym, refl, ap, ◌∙◌, subst, arith}
+use Rattle.std.proofs.Common.{◌≡◌, ℕ, Bool, true, false, eqb, ℤ, Some, None, Ok, Option, refl, arith, ◌⊎◌, inl, inr}
 use Rattle.std.proofs.lemmas.Bool.{eqb-true}
 use Rattle.drives.specs.Meaning.{Meaning, Sound}
 use Rattle.drives.specs.Sending.{told}
 use Rattle.motion.specs.declared.raw.RawData.{RawData}
 use Rattle.motion.specs.Ramp.{ramp_of}
-use Rattle.motion.specs.Travel.{Going, ticked, passing}
+use Rattle.motion.specs.Travel.{Going, passing}
 use Rattle.motion.proofs.Runs.{tick-ends}
 use Rattle.states.specs.declared.fault.AxisFault.{AxisFault}
-use Rattle.states.specs.State.{Course, Travel, Phase, moving, braking, Work, course_of}
+use Rattle.states.specs.State.{Course, Travel, Phase, moving, braking, Work}
 use Rattle.states.specs.Moves.{direction_of, ticked_in, braked_in}
-use Rattle.ticks.specs.Moving.{placed, with_going, after_move, stopped_short, ran, slowed, failed, sent_on}
-use Rattle.laws.specs.Kept.{KeptIn, OnWay, KeptWith, KeptBy, Quiet}
+use Rattle.ticks.specs.Moving.{placed, at, with_going, after_move, stopped_short, ran, slowed, failed, sent_on}
+use Rattle.laws.specs.Kept.{KeptIn, OnWay, KeptWith, KeptBy}
 use Rattle.laws.proofs.Passing.{Follows, ticked_follows, braked_follows, taken, sound_on, way_on, on_drift, on_limits, end-drift}
-use Rattle.laws.proofs.Taking.{done_keeps}
 
--- what is left of a program after a move asks nothing, or a target that the move had
+-- what is left of a program after a move asks nothing
 after_keeps : (o : Option Course) (mode : ℕ) (d : RawData) (m : Meaning) (zero : ℤ) (r : Bool) → KeptIn (after_move mode o) d m zero r
-after_keeps None mode d m zero r = tt
-after_keeps (Some c) mode d m zero r = done_keeps mode true c d m zero r
-
-short_keeps : (o : Option Course) (d : RawData) (m : Meaning) (zero : ℤ) (r : Bool) (t : Travel) → OnWay d m zero r t
-    → KeptIn (stopped_short t.target o) d m zero r
-short_keeps None d m zero r t w = tt
-short_keeps (Some c) d m zero r t w = w.target
+after_keeps o mode d m zero r = grind arith
 
 -- where a move is, with the drive m: after a tick of motion, a braking tick, and trouble
+module _ (d : RawData) (m n : Meaning) (w : Work) (t : Travel) (k : KeptWith d n w) (o : OnWay d m w.zero w.referenced t) where
+  placed_keeps : (p : Phase) → KeptIn p d m w.zero w.referenced → KeptWith d m (at (placed (Some d) t m.count w) p w)
+  placed_keeps p h = record {
+    range = k.range;
+    agree = k.agree;
+    drift = on_drift d m w.zero w.referenced t o k.range;
+    limits = on_limits d m w.zero w.referenced t o;
+    doing = h;
+  }
+
+  failed_keeps : (f : AxisFault) → KeptWith d m (failed f (placed (Some d) t m.count w) w)
+  failed_keeps f = record {
+    range = k.range;
+    agree = k.agree;
+    drift = on_drift d m w.zero w.referenced t o k.range;
+    limits = λ e. cc;
+    doing = tt;
+  }
+
 module _ (d : RawData) (m n : Meaning) (w : Work) (t : Travel) (g : Going) (k : KeptWith d n w)
     (o : OnWay d m w.zero w.referenced (with_going g t)) where
   ran_keeps : (b : Bool) → (b ≡ true → g.left ≡ 0) → KeptWith d m (ran b g t m.count (Some d) w)
@@ -36,48 +48,12 @@ module _ (d : RawData) (m n : Meaning) (w : Work) (t : Travel) (g : Going) (k : 
     limits = o.target.limits;
     doing = after_keeps t.course w.mode d m w.zero w.referenced;
   }
-  ran_keeps false h = record {
-    range = k.range;
-    agree = k.agree;
-    drift = on_drift d m w.zero w.referenced (with_going g t) o k.range;
-    limits = on_limits d m w.zero w.referenced (with_going g t) o;
-    doing = o;
-  }
+  ran_keeps false h = placed_keeps d m n w (with_going g t) k o (moving (with_going g t)) o
 
   slowed_keeps : (b : Bool) → KeptWith d m (slowed b g t m.count (Some d) w)
-  slowed_keeps true = record {
-    range = k.range;
-    agree = k.agree;
-    drift = on_drift d m w.zero w.referenced (with_going g t) o k.range;
-    limits = on_limits d m w.zero w.referenced (with_going g t) o;
-    doing = short_keeps t.course d m w.zero w.referenced (with_going g t) o;
-  }
-  slowed_keeps false = record {
-    range = k.range;
-    agree = k.agree;
-    drift = on_drift d m w.zero w.referenced (with_going g t) o k.range;
-    limits = on_limits d m w.zero w.referenced (with_going g t) o;
-    doing = o;
-  }
-
-failed_keeps : (d : RawData) (m : Meaning) (w : Work) (t : Travel) (f : AxisFault) → KeptWith d m w
-    → OnWay d m w.zero w.referenced t → KeptWith d m (failed f (placed (Some d) t m.count w) w)
-failed_keeps d m w t f k o = record {
-  range = k.range;
-  agree = k.agree;
-  drift = on_drift d m w.zero w.referenced t o k.range;
-  limits = λ e. let z : ◌≡◌ {A = ℕ} 0 1 = cc in absurd (omega arith);
-  doing = tt;
-}
-
--- a tick that ends a move has nothing left of it
-nothing_left : (d : RawData) (g : Going) → eqb (ticked (ramp_of d) g).step 0 ≡ true → (ticked (ramp_of d) g).left ≡ 0
-nothing_left d g e = tick-ends (ramp_of d) g (eqb-true (ticked (ramp_of d) g).step 0 e)
-
--- what the axis does, read from what it keeps
-doing_of : (d : RawData) (m : Meaning) (w : Work) (p : Phase) → w.phase ≡ p → KeptWith d m w
-    → KeptIn p d m w.zero w.referenced
-doing_of d m w p e k = subst (λ (x : Phase). KeptIn x d m w.zero w.referenced) e k.doing
+  slowed_keeps true =
+      placed_keeps d m n w (with_going g t) k o (stopped_short t.target t.course) (grind arith)
+  slowed_keeps false = placed_keeps d m n w (with_going g t) k o (braking (with_going g t)) o
 
 -- every pulse is taken
 abbrev pub Took : Travel → Going → Meaning → Type 0
@@ -88,14 +64,12 @@ pub run_on : (o : Option RawData) (m : Meaning) (w : Work) (t : Travel) (g : Goi
     → w.phase ≡ moving t → KeptBy o m w → Sound m → m.ready ≡ true
     → Sound (sent_on t g m) × KeptBy o (sent_on t g m) (ran (eqb g.step 0) g t (sent_on t g m).count o w) × Took t g m
 unfolding ticked_in
-run_on None m w t g i e k s r = let f = k.0 in let z : ◌≡◌ {A = ℕ} 0 1 = cc in absurd (omega arith)
+run_on None m w t g i e k s r = cc
 run_on (Some d) m w t g i e k s r =
-    let y = doing_of d m w (moving t) e k in
-    let f : Follows (ramp_of d) t.going g =
-    subst (Follows (ramp_of d) t.going) (sym i) (ticked_follows (ramp_of d) t.going y.safe) in
+    let y = rw e at k.doing in
+    let f : Follows (ramp_of d) t.going g = rw i (ticked_follows (ramp_of d) t.going y.safe) in
     let x = way_on d m w.zero w.referenced t g s r y f in
-    let l : eqb g.step 0 ≡ true → g.left ≡ 0 =
-    subst (λ (x : Going). eqb x.step 0 ≡ true → x.left ≡ 0) (sym i) (nothing_left d t.going) in (
+    let l : eqb g.step 0 ≡ true → g.left ≡ 0 = rw i (λ h. tick-ends (ramp_of d) t.going (eqb-true _ 0 h)) in (
       sound_on d m w.zero w.referenced t g s r y f,
       ran_keeps d (sent_on t g m) m w t g k x (eqb g.step 0) l,
       taken d m w.zero w.referenced t g s r y f,
@@ -105,51 +79,19 @@ pub slow_on : (o : Option RawData) (m : Meaning) (w : Work) (t : Travel) (g : Go
     → w.phase ≡ braking t → KeptBy o m w → Sound m → m.ready ≡ true
     → Sound (sent_on t g m) × KeptBy o (sent_on t g m) (slowed (eqb g.step 0) g t (sent_on t g m).count o w) × Took t g m
 unfolding braked_in
-slow_on None m w t g i e k s r = let f = k.0 in let z : ◌≡◌ {A = ℕ} 0 1 = cc in absurd (omega arith)
+slow_on None m w t g i e k s r = cc
 slow_on (Some d) m w t g i e k s r =
-    let y = doing_of d m w (braking t) e k in
-    let f : Follows (ramp_of d) t.going g =
-    subst (Follows (ramp_of d) t.going) (sym i) (braked_follows (ramp_of d) t.going y.safe) in
+    let y = rw e at k.doing in
+    let f : Follows (ramp_of d) t.going g = rw i (braked_follows (ramp_of d) t.going y.safe) in
     let x = way_on d m w.zero w.referenced t g s r y f in (
       sound_on d m w.zero w.referenced t g s r y f,
       slowed_keeps d (sent_on t g m) m w t g k x (eqb g.step 0),
       taken d m w.zero w.referenced t g s r y f,
     )
 
--- trouble
-pub fail_moving : (o : Option RawData) (m : Meaning) (w : Work) (t : Travel) (f : AxisFault) → w.phase ≡ moving t → KeptBy o m w
-    → KeptBy o m (failed f (placed o t m.count w) w)
-fail_moving None m w t f e k = let h = k.0 in let z : ◌≡◌ {A = ℕ} 0 1 = cc in absurd (omega arith)
-fail_moving (Some d) m w t f e k = failed_keeps d m w t f k (doing_of d m w (moving t) e k)
-
-pub fail_braking : (o : Option RawData) (m : Meaning) (w : Work) (t : Travel) (f : AxisFault) → w.phase ≡ braking t → KeptBy o m w
-    → KeptBy o m (failed f (placed o t m.count w) w)
-fail_braking None m w t f e k = let h = k.0 in let z : ◌≡◌ {A = ℕ} 0 1 = cc in absurd (omega arith)
-fail_braking (Some d) m w t f e k = failed_keeps d m w t f k (doing_of d m w (braking t) e k)
-
--- what shows: mode and M number stay, and where no program ran none runs
-carried : (w v : Work) → v.mode ≡ w.mode → v.auxiliary ≡ w.auxiliary → (course_of w.phase ≡ None → course_of v.phase ≡ None)
-    → Quiet w → Quiet v
-carried w v h a c q n = let p = q (ap (λ (x : ℕ). eqb x 8 || eqb x 9) (sym h) ∙ n) in (a ∙ p.0, c p.1)
-
-after_none : (o : Option Course) (mode : ℕ) → o ≡ None → course_of (after_move mode o) ≡ None
-after_none None mode e = refl
-after_none (Some c) mode e = let z : ◌≡◌ {A = ℕ} 0 1 = cc in absurd (omega arith)
-
-short_none : (o : Option Course) (target : ℤ) → o ≡ None → course_of (stopped_short target o) ≡ None
-short_none None target e = refl
-short_none (Some c) target e = e
-
-module _ (w : Work) (t : Travel) (e : course_of w.phase ≡ t.course) (q : Quiet w) where
-  pub ran_quiet : (b : Bool) (g : Going) (count : ℤ) (o : Option RawData) → Quiet (ran b g t count o w)
-  ran_quiet true g count o =
-      carried w (ran true g t count o w) refl refl (λ h. after_none t.course w.mode (sym e ∙ h)) q
-  ran_quiet false g count o = carried w (ran false g t count o w) refl refl (λ h. sym e ∙ h) q
-
-  pub slowed_quiet : (b : Bool) (g : Going) (count : ℤ) (o : Option RawData) → Quiet (slowed b g t count o w)
-  slowed_quiet true g count o =
-      carried w (slowed true g t count o w) refl refl (λ h. short_none t.course t.target (sym e ∙ h)) q
-  slowed_quiet false g count o = carried w (slowed false g t count o w) refl refl (λ h. sym e ∙ h) q
-
-pub failed_quiet : (w : Work) (f : AxisFault) (c : ℤ) → Quiet w → Quiet (failed f c w)
-failed_quiet w f c q = carried w (failed f c w) refl refl (λ h. refl) q
+-- trouble stops a move and a move that is braked alike
+pub fail_on : (o : Option RawData) (m : Meaning) (w : Work) (t : Travel) (f : AxisFault)
+    → (w.phase ≡ moving t) ⊎ (w.phase ≡ braking t) → KeptBy o m w → KeptBy o m (failed f (placed o t m.count w) w)
+fail_on None m w t f e k = (refl, refl)
+fail_on (Some d) m w t f (inl e) k = failed_keeps d m m w t k (rw e at k.doing) f
+fail_on (Some d) m w t f (inr e) k = failed_keeps d m m w t k (rw e at k.doing) f

@@ -1,37 +1,21 @@
 -- A new move: where its target can be attained, the move is on its way.
-use Rattle.std.proofs.Common.{◌≡◌, ℕ, ◌-◌, ◌*◌, ◌/◌, Bool, true, false, ◌&&◌, ℤ, pos, negsuc, ◌+ℤ◌, ◌-ℤ◌, nat_abs, ◌≤ℤ◌, Some, Option, refl, ap, ◌∙◌, subst, arith}
-use lib.Signed.{le_z}
+use Rattle.std.proofs.Common.{◌≡◌, ℕ, ◌-◌, ◌*◌, ◌/◌, Bool, ℤ, ◌+ℤ◌, ◌-ℤ◌, nat_abs, Some, Ok, Option, refl, arith}
 use Rattle.std.proofs.lemmas.Int.{ints}
-use Rattle.std.proofs.lemmas.Bool.{and_parts}
 use Rattle.drives.specs.Meaning.{Meaning}
 use Rattle.motion.specs.declared.raw.RawData.{RawData}
 use Rattle.motion.specs.Ramp.{ramp_of}
 use Rattle.motion.specs.Places.{pulses_by}
-use Rattle.motion.specs.Laws.{Near}
 use Rattle.motion.proofs.Runs.{stays-safe}
+use Rattle.states.specs.declared.aim.Aim.{Aim}
 use Rattle.states.specs.State.{Course, Work}
-use Rattle.states.specs.Moves.{begun_in, aim_for, distance_to, move_questions, lowest_of, highest_of}
+use Rattle.states.specs.Moves.{begun_in, aim_for, move_verdict, move_questions}
 use Rattle.states.specs.Effects.{travel_to}
-use Rattle.states.proofs.Asked.{Yes}
-use Rattle.laws.specs.Kept.{InLimits, Attainable, along, OnWay, KeptWith}
+use Rattle.laws.proofs.Asked.{Yes, accepted}
+use Rattle.laws.specs.Kept.{Attainable, along, OnWay, KeptWith}
 
--- a place less the way to it is where the way began
-back : (p n : ℤ) → n ≡ p -ℤ (p -ℤ n)
-back p n = omega (arith, ints)
-
--- nothing is passed yet
-none_passed : (t : ℕ) → (t - t) / 1000000 ≡ 0
-none_passed t = omega arith
-
-along-none : (D : ℤ) → along D 0 ≡ pos 0
-along-none (pos n) = refl
-along-none (negsuc n) = refl
-
-plus_none : (a : ℤ) (b : ℤ) → b ≡ pos 0 → a ≡ a +ℤ b
-plus_none a b h = omega (arith, ints)
-
-at-start : (D a : ℤ) (t : ℕ) → a ≡ a +ℤ along D ((t - t) / 1000000)
-at-start D a t = plus_none a _ (ap (along D) (none_passed t) ∙ along-none D)
+-- nothing is passed yet, and a place less the way to it is where the way began
+at-start : (D n p : ℤ) (t : ℕ) → D ≡ p -ℤ n → n ≡ (p -ℤ D) +ℤ along D ((t - t) / 1000000)
+at-start D n p t e = grind (arith, ints)
 
 -- a move to a target that can be attained is on its way
 pub new_move : (d : RawData) (m : Meaning) (w : Work) (rate : ℕ) (target : ℤ) (c : Option Course) → KeptWith d m w
@@ -40,34 +24,28 @@ pub new_move : (d : RawData) (m : Meaning) (w : Work) (rate : ℕ) (target : ℤ
 unfolding begun_in
 new_move d m w rate target c k a =
     let n = m.count -ℤ w.zero in
-    let D = distance_to d target m w.zero in
-    let b : n ≡ pulses_by d target -ℤ D = back (pulses_by d target) n in
+    let p = pulses_by d target in
+    let b : n ≡ p -ℤ (p -ℤ n) = omega (arith, ints) in
     record {
-      began = subst (λ (x : ℤ). Near d.units d.pulses x w.coordinate) b k.drift;
-      gone = b ∙ at-start D (pulses_by d target -ℤ D) (1000000 * nat_abs D);
+      began = rw (← b) k.drift;
+      gone = at-start (p -ℤ n) n p (1000000 * nat_abs (p -ℤ n)) refl;
       whole = refl;
-      safe = (stays-safe (ramp_of d)).0 d.fm rate D;
+      safe = (stays-safe (ramp_of d)).0 d.fm rate (p -ℤ n);
       target = a;
       start = k.limits;
     }
 
--- the ends and the limits, as they are asked
-in_both : (l x g : ℤ) → (le_z l x && le_z x g) ≡ true → (l ≤ℤ x) × (x ≤ℤ g)
-in_both l x g h =
-    let p = and_parts (le_z l x) (le_z x g) h in
-    let p0 : le_z l x ≡ true = p.0 in
-    let p1 : le_z x g ≡ true = p.1 in
-    (grind (arith, ints), grind (arith, ints))
-
-limits_by : (r : Bool) (d : RawData) (target : ℤ) → (lowest_of d r ≤ℤ target) × (target ≤ℤ highest_of d r)
-    → r ≡ true → InLimits d target
-limits_by true d target h e = h
-limits_by false d target h e = let z : ◌≡◌ {A = ℕ} 0 1 = cc in absurd (omega arith)
-
 -- a target of which all is answered yes can be attained
-pub attains : (d : RawData) (rate : ℕ) (target : ℤ) (m : Meaning) (zero : ℤ) (referenced : Bool)
+pub attained : (d : RawData) (rate : ℕ) (target : ℤ) (m : Meaning) (zero : ℤ) (referenced : Bool)
     → Yes (move_questions d rate target m zero referenced) → Attainable d m zero referenced target
-attains d rate target m zero referenced y = record {
-  ends = in_both m.least (zero +ℤ pulses_by d target) m.greatest y.1.1.0;
-  limits = limits_by referenced d target (in_both (lowest_of d referenced) target (highest_of d referenced) y.1.0);
+attained d rate target m zero referenced y = record {
+  ends = grind (arith, ints, y);
+  limits = λ e. grind (arith, ints, y);
 }
+
+-- and so can one for which a move is granted
+pub attains : (d : RawData) (rate : ℕ) (target : ℤ) (m : Meaning) (zero : ℤ) (referenced : Bool) (aim : Aim)
+    → move_verdict d rate target m zero referenced ≡ Ok aim → Attainable d m zero referenced target × (aim_for d rate target m zero ≡ aim)
+attains d rate target m zero referenced aim y =
+    let q = accepted (move_questions d rate target m zero referenced) (aim_for d rate target m zero) aim y in
+    (attained d rate target m zero referenced q.0, q.1)

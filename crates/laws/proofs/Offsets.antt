@@ -14,7 +14,7 @@ use Rattle.states.specs.declared.mode.Jog.TheVariants.{First, Second}
 use Rattle.states.specs.declared.mode.Pace.TheVariants.{Continuous, SingleBlock}
 use Rattle.states.specs.Mode.{mode_number, mode_of}
 use Rattle.states.specs.State.{Phase, standing, moving, braking, held, between, Work, Status, stands}
-use Rattle.states.proofs.Asked.{Yes}
+use Rattle.laws.proofs.Asked.{Yes}
 use Rattle.orders.specs.declared.plan.Plan.TheVariants.{Halt, Begin}
 use Rattle.orders.specs.Modes.{starts, stops, takes_over, admits, bare}
 use Rattle.orders.specs.Questions.{resume_plan, mode_plan, bare_plan, standing_plan, standing_questions, order_questions, plan_for}

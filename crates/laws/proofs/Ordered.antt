@@ -12,7 +12,7 @@ use Rattle.states.specs.declared.mode.Mode.TheVariants.{Jog, AxisOff, Reference,
 use Rattle.states.specs.Mode.{mode_of}
 use Rattle.states.specs.State.{Phase, standing, moving, braking, held, between, Work, Status, AxisState, stands}
 use Rattle.states.specs.Courses.{course_rate}
-use Rattle.states.proofs.Asked.{Yes, accepted}
+use Rattle.laws.proofs.Asked.{Yes, accepted}
 use Rattle.orders.specs.declared.plan.Plan.{Plan}
 use Rattle.orders.specs.declared.plan.Plan.TheVariants.{Halt, Begin}
 use Rattle.orders.specs.Modes.{stops, takes_over}
@@ -22,7 +22,7 @@ use Rattle.orders.specs.Orders.{order_fault, left}
 use Rattle.ticks.specs.Ticks.{with_status}
 use Rattle.laws.specs.Acts.{order_axis}
 use Rattle.laws.specs.Kept.{KeptIn, KeptWith, Quiet, Kept}
-use Rattle.laws.proofs.NewMove.{attains}
+use Rattle.laws.proofs.NewMove.{attained}
 use Rattle.laws.proofs.Numbers.{program_mode}
 use Rattle.laws.proofs.Refusing.{Holds, refused_holds, halt_holds, clear_holds, mode_holds}
 use Rattle.laws.proofs.Plans.{zero_holds, offset_holds, tool_holds, go_holds, begin_holds, resume_holds, continue_holds}
@@ -32,7 +32,7 @@ module _ (o : Order) (p : Programs) (m : Meaning) (d : RawData) (w : Work) (q : 
   moves : (target : ℤ) → Yes (go_questions d o target m w)
       → Holds (Some d) m (carried_out o.mode (go_plan d o target m w) m (Some d) w)
   moves target y =
-      go_holds o.mode d m w k (rate_by d o.word) target (attains d (rate_by d o.word) target m w.zero w.referenced y)
+      go_holds o.mode d m w k (rate_by d o.word) target (attained d (rate_by d o.word) target m w.zero w.referenced y)
 
   -- a held program that goes on
   resumes : (ph : Phase) → w.phase ≡ ph → (eqb o.mode 8 || eqb o.mode 9) ≡ true

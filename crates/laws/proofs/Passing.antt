@@ -1,5 +1,5 @@
 -- One tick of a move: its pulses are taken, the move stays on its way, and the coordinate stays near and within the limits.
-use Rattle.std.proofs.Common.{◌≡◌, ℕ, ◌-◌, ◌*◌, ◌/◌, ◌≤◌, Bool, true, ℤ, pos, negsuc, ◌+ℤ◌, ◌-ℤ◌, nat_abs, ◌≤ℤ◌, Some, Ok, sym, refl, ◌∙◌, subst, arith}
+use Rattle.std.proofs.Common.{◌≡◌, ℕ, ◌-◌, ◌≤◌, Bool, true, ℤ, pos, negsuc, ◌+ℤ◌, ◌-ℤ◌, nat_abs, ◌≤ℤ◌, Some, Ok, refl, ◌∙◌, arith}
 use Rattle.std.proofs.lemmas.Int.{ints, clamps}
 use Rattle.drives.specs.Meaning.{Meaning, Sound, at}
 use Rattle.drives.specs.Sending.{told}
@@ -7,12 +7,11 @@ use Rattle.laws.proofs.Sent.{gone, Within, all-sent, all_told}
 use Rattle.motion.specs.declared.raw.RawData.{RawData}
 use Rattle.motion.specs.Data.{InRange}
 use Rattle.motion.specs.Ramp.{Ramp, ramp_of}
-use Rattle.motion.specs.Places.{pulses_by, nearest_by}
-use Rattle.motion.specs.Travel.{Going, ticked, braked, passed_in, passing, chosen}
+use Rattle.motion.specs.Places.{pulses_by}
+use Rattle.motion.specs.Travel.{Going, ticked, braked, passed_in, passing}
 use Rattle.motion.specs.Laws.{Near, Between, Safe}
-use Rattle.motion.proofs.Choice.{left_keeps}
-use Rattle.motion.proofs.Drift.{drift, arrives, held-between}
-use Rattle.motion.proofs.Runs.{stays-safe, chosen-way}
+use Rattle.motion.proofs.Drift.{drift, arrives}
+use Rattle.motion.proofs.Runs.{stays-safe}
 use Rattle.states.specs.State.{Travel}
 use Rattle.states.specs.Moves.{placed_in, direction_of}
 use Rattle.ticks.specs.Moving.{with_going, sent_on}
@@ -25,21 +24,10 @@ pub record Follows (f : Ramp) (g h : Going) : Type 0 where
   pub safe : Safe f h
 
 pub ticked_follows : (f : Ramp) (g : Going) → Safe f g → Follows f g (ticked f g)
-ticked_follows f g s =
-    record { total = refl; less = (left_keeps f g (chosen f g) (chosen-way f g)).0; safe = (stays-safe f).1 g s }
+ticked_follows f g s = record { total = refl; less = grind arith; safe = (stays-safe f).1 g s }
 
 pub braked_follows : (f : Ramp) (g : Going) → Safe f g → Follows f g (braked f g)
 braked_follows f g s = record { total = refl; less = omega arith; safe = (stays-safe f).2 g s }
-
--- whole millions: more are passed as less is left, and no more than the whole has
-more-passed : (t u a b : ℕ) → u ≡ t → b ≤ a → (t - a) / 1000000 ≤ (u - b) / 1000000
-more-passed t u a b e h = omega arith
-
-few_passed : (t l n : ℕ) → t ≡ 1000000 * n → (t - l) / 1000000 ≤ n
-few_passed t l n e = omega arith
-
-all-passed : (t l n : ℕ) → t ≡ 1000000 * n → l ≡ 0 → (t - l) / 1000000 ≡ n
-all-passed t l n e z = omega arith
 
 -- by the distance D to T: the count after the pulses from a to b of the way
 gone_on_lem : (D : ℤ) (m : Meaning) (zero T : ℤ) (a b : ℕ) → m.count -ℤ zero ≡ (T -ℤ D) +ℤ along D a → a ≤ b
@@ -55,22 +43,18 @@ has_room (negsuc n) m zero T a b e h k l u = omega (arith, ints)
 
 -- the drive stays within its ends
 sound_at : (D : ℤ) (m : Meaning) (k : ℕ) → Sound m → Within (direction_of D) k m → Sound (at (gone (direction_of D) k m) m)
-sound_at (pos n) m k s w = record { floor = s.floor; low = omega (arith, ints); high = w; ceiling = s.ceiling }
-sound_at (negsuc n) m k s w = record { floor = s.floor; low = w; high = omega (arith, ints); ceiling = s.ceiling }
+sound_at D m k s w = record { floor = s.floor; low = grind (arith, ints); high = grind (arith, ints); ceiling = s.ceiling }
 
 -- a tick from t to g of a move on its way, by a drive that is ready
 module _ (d : RawData) (m : Meaning) (zero : ℤ) (r : Bool) (t : Travel) (g : Going) (s : Sound m) (ready : m.ready ≡ true)
     (o : OnWay d m zero r t) (f : Follows (ramp_of d) t.going g) where
-  few : passed_in g ≤ nat_abs t.distance
-  few = few_passed g.total g.left (nat_abs t.distance) (f.total ∙ o.whole)
-
   grows : passed_in t.going ≤ passed_in g
-  grows = more-passed t.going.total g.total t.going.left g.left f.total f.less
+  grows = omega (arith, f.total, f.less)
 
   roomy : Within (direction_of t.distance) (passing t.going g).pulses m
   roomy =
-      has_room t.distance m zero (pulses_by d t.target) (passed_in t.going) (passed_in g) o.gone grows few
-      o.target.ends.0 o.target.ends.1
+      has_room t.distance m zero (pulses_by d t.target) (passed_in t.going) (passed_in g) o.gone grows
+      (omega (arith, f.total, o.whole)) o.target.ends.0 o.target.ends.1
 
   -- every pulse is taken
   pub taken : told (direction_of t.distance) (passing t.going g).pulses m ≡ Ok tt
@@ -81,73 +65,41 @@ module _ (d : RawData) (m : Meaning) (zero : ℤ) (r : Bool) (t : Travel) (g : G
   sent-at = all-sent (direction_of t.distance) (passing t.going g).pulses m s ready roomy
 
   pub sound_on : Sound (sent_on t g m)
-  sound_on = subst Sound (sym sent-at) (sound_at t.distance m (passing t.going g).pulses s roomy)
+  sound_on = rw sent-at (sound_at t.distance m (passing t.going g).pulses s roomy)
 
-  way_at : OnWay d (at (gone (direction_of t.distance) (passing t.going g).pulses m) m) zero r (with_going g t)
-  way_at = record {
+  -- the move stays on its way
+  pub way_on : OnWay d (sent_on t g m) zero r (with_going g t)
+  way_on = rw sent-at (record {
     began = o.began;
     gone = gone_on_lem t.distance m zero (pulses_by d t.target) (passed_in t.going) (passed_in g) o.gone grows;
     whole = f.total ∙ o.whole;
     safe = f.safe;
     target = record { ends = o.target.ends; limits = o.target.limits };
     start = o.start;
-  }
-
-  -- the move stays on its way
-  pub way_on : OnWay d (sent_on t g m) zero r (with_going g t)
-  way_on = subst (λ (x : Meaning). OnWay d x zero r (with_going g t)) (sym sent-at) way_at
+  })
 
 -- n lies between where the move began and its end
 on_between : (D T n : ℤ) (p : ℕ) → n ≡ (T -ℤ D) +ℤ along D p → p ≤ nat_abs D → Between (T -ℤ D) T n
-on_between (pos k) T n p e h = (omega (arith, ints, clamps), omega (arith, ints, clamps))
-on_between (negsuc k) T n p e h = (omega (arith, ints, clamps), omega (arith, ints, clamps))
-
--- what lies between two coordinates within the limits is within them
-limits-between : (d : RawData) (a b x : ℤ) → InLimits d a → InLimits d b → Between a b x → InLimits d x
-limits-between d a b x p q h = (omega (arith, ints, clamps), omega (arith, ints, clamps))
+on_between D T n p e h = grind (arith, ints, clamps)
 
 at-end : (D T n : ℤ) (p : ℕ) → n ≡ (T -ℤ D) +ℤ along D p → p ≡ nat_abs D → n ≡ T
-at-end (pos k) T n p e h = omega (arith, ints)
-at-end (negsuc k) T n p e h = omega (arith, ints)
+at-end D T n p e h = grind (arith, ints)
 
 -- the coordinate of a move on its way
 module _ (d : RawData) (m : Meaning) (zero : ℤ) (r : Bool) (t : Travel) (o : OnWay d m zero r t) where
-  in_between : Between (began_at d t) (pulses_by d t.target) (m.count -ℤ zero)
-  in_between =
-      on_between t.distance (pulses_by d t.target) (m.count -ℤ zero) (passed_in t.going) o.gone
-      (few_passed t.going.total t.going.left (nat_abs t.distance) o.whole)
-
-  -- with nothing left n is that of the target
-  pub ended_at : t.going.left ≡ 0 → m.count -ℤ zero ≡ pulses_by d t.target
-  ended_at z =
-      at-end t.distance (pulses_by d t.target) (m.count -ℤ zero) (passed_in t.going) o.gone
-      (all-passed t.going.total t.going.left (nat_abs t.distance) o.whole z)
-
-drift_by : (d : RawData) (start target from n : ℤ) → InRange d → Near d.units d.pulses from start
-    → Between from (pulses_by d target) n → Near d.units d.pulses n (placed_in (Some d) start target n)
-unfolding placed_in
-drift_by d start target from n i near b =
-    drift d.units d.pulses i.2.0.0 i.2.1.0 start target from n near b
-
-arrives_by : (d : RawData) (target : ℤ) → InRange d → Near d.units d.pulses (pulses_by d target) target
-arrives_by d target i = arrives d.units d.pulses i.2.0.0 i.2.1.0 target
-
-placed-between : (d : RawData) (start target n : ℤ) → Between start target (placed_in (Some d) start target n)
-unfolding placed_in
-placed-between d start target n = held-between start target (nearest_by d n)
-
-module _ (d : RawData) (m : Meaning) (zero : ℤ) (r : Bool) (t : Travel) (o : OnWay d m zero r t) where
   pub on_drift : InRange d
       → Near d.units d.pulses (m.count -ℤ zero) (placed_in (Some d) t.start t.target (m.count -ℤ zero))
+  unfolding placed_in
   on_drift i =
-      drift_by d t.start t.target (began_at d t) (m.count -ℤ zero) i o.began (in_between d m zero r t o)
+      drift d.units d.pulses i.2.0.0 i.2.1.0 t.start t.target (began_at d t) (m.count -ℤ zero) o.began
+      (on_between t.distance (pulses_by d t.target) (m.count -ℤ zero) (passed_in t.going) o.gone (omega (arith, o.whole)))
 
   pub on_limits : r ≡ true → InLimits d (placed_in (Some d) t.start t.target (m.count -ℤ zero))
-  on_limits e =
-      limits-between d t.start t.target (placed_in (Some d) t.start t.target (m.count -ℤ zero))
-      (o.start e) (o.target.limits e) (placed-between d t.start t.target (m.count -ℤ zero))
+  unfolding placed_in
+  on_limits e = omega (arith, ints, clamps, o.start e, o.target.limits e)
 
-  -- with nothing left the target is near
+  -- with nothing left n is that of the target, and the target is near
   pub end-drift : InRange d → t.going.left ≡ 0 → Near d.units d.pulses (m.count -ℤ zero) t.target
   end-drift i z =
-      subst (λ (n : ℤ). Near d.units d.pulses n t.target) (sym (ended_at d m zero r t o z)) (arrives_by d t.target i)
+      rw (at-end t.distance (pulses_by d t.target) (m.count -ℤ zero) (passed_in t.going) o.gone (omega (arith, o.whole, z)))
+      (arrives d.units d.pulses i.2.0.0 i.2.1.0 t.target)

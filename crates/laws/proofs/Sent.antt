@@ -1,10 +1,10 @@
 -- Pulses that a drive is sent and that all have room: each is accepted.
-use Rattle.std.proofs.Common.{◌≡◌, ℕ, zero, suc, true, pos, neg_ℤ, ℤ, ◌+ℤ◌, ◌≤ℤ◌, Ok, refl, ap, ◌∙◌, arith}
+use Rattle.std.proofs.Common.{◌≡◌, ℕ, zero, suc, true, pos, neg_ℤ, ℤ, ◌+ℤ◌, ◌≤ℤ◌, Ok, refl, arith}
 use Rattle.std.proofs.lemmas.Int.{ints}
 use Rattle.drives.specs.declared.direction.Direction.{Direction}
 use Rattle.drives.specs.declared.direction.Direction.TheVariants.{Forward, Backward}
-use Rattle.drives.specs.Meaning.{Meaning, Sound, at, answered}
-use Rattle.drives.specs.Sending.{sent, told, reached}
+use Rattle.drives.specs.Meaning.{Meaning, Sound, at}
+use Rattle.drives.specs.Sending.{sent, told}
 use Rattle.drives.proofs.Sends.{reach}
 
 -- the count after k accepted pulses
@@ -17,21 +17,9 @@ abbrev pub Within : Direction → ℕ → Meaning → Type 0
 Within Forward k m = (m.count +ℤ pos k) ≤ℤ m.greatest
 Within Backward k m = m.least ≤ℤ (m.count +ℤ neg_ℤ (pos k))
 
-reached_gone : (d : Direction) (k : ℕ) (m : Meaning) → m.ready ≡ true → Within d k m → reached d k m ≡ gone d k m
-reached_gone Forward k m h w = grind (arith, ints)
-reached_gone Backward k m h w = grind (arith, ints)
-
-less : (d : Direction) (k : ℕ) (m : Meaning) → Within d (suc k) m → Within d k m
-less Forward k m w = omega (arith, ints)
-less Backward k m w = omega (arith, ints)
-
-next_accepted : (d : Direction) (k : ℕ) (m : Meaning) → m.ready ≡ true → Within d (suc k) m → answered d (at (gone d k m) m) ≡ Ok tt
-next_accepted Forward k m h w = grind (arith, ints)
-next_accepted Backward k m h w = grind (arith, ints)
-
 pub all-sent : (d : Direction) (k : ℕ) (m : Meaning) → Sound m → m.ready ≡ true → Within d k m → sent d k m ≡ at (gone d k m) m
-all-sent d k m s h w = reach d k m s ∙ ap (λ (n : ℤ). at n m) (reached_gone d k m h w)
+all-sent d k m s h w = rw (reach d k m s) (grind (arith, ints))
 
 pub all_told : (d : Direction) (k : ℕ) (m : Meaning) → Sound m → m.ready ≡ true → Within d k m → told d k m ≡ Ok tt
 all_told d zero m s h w = refl
-all_told d (suc k) m s h w = ap (answered d) (all-sent d k m s h (less d k m w)) ∙ next_accepted d k m h w
+all_told d (suc k) m s h w = rw (reach d k m s) (grind (arith, ints))

@@ -8,7 +8,7 @@ use Rattle.states.specs.declared.fault.Cause.{Cause}
 use Rattle.states.specs.State.{Course, Work, AxisState, course_of}
 use Rattle.states.specs.Shift.{program_offset}
 use Rattle.states.specs.Entry.{cleared, with_data, enter_no, delete_no, unless, call_reply}
-use Rattle.states.proofs.Asked.{accepted}
+use Rattle.laws.proofs.Asked.{accepted}
 use Rattle.orders.specs.declared.plan.Plan.{Plan}
 use Rattle.orders.specs.Questions.{order_questions, plan_for, verdict}
 use Rattle.orders.specs.Effects.{carried_out}

@@ -1,96 +1,56 @@
 -- Taking the next block of a program keeps what an axis keeps.
-use Rattle.std.proofs.Common.{◌≡◌, ℕ, Bool, true, false, cond, ◌&&◌, ◌||◌, eqb, ℤ, Some, None, Ok, Err, Option, Result, sym, refl, ap, ◌∙◌, subst, arith}
+use Rattle.std.proofs.Common.{◌≡◌, ℕ, Bool, ℤ, Some, None, Ok, Err, Option, Result, refl, arith}
 use Rattle.reader.specs.declared.block.Block.{Block}
 use Rattle.drives.specs.Meaning.{Meaning}
 use Rattle.motion.specs.declared.raw.RawData.{RawData}
-use Rattle.reader.specs.Words.{ends_by}
 use Rattle.states.specs.declared.aim.Aim.{Aim}
 use Rattle.states.specs.declared.fault.Cause.{Cause}
-use Rattle.states.specs.State.{Course, standing, held, between, Work, course_of}
-use Rattle.states.specs.Moves.{aim_for, move_questions}
+use Rattle.states.specs.declared.fault.AxisFault.{AxisFault}
+use Rattle.states.specs.State.{Course, Phase, between, Work}
 use Rattle.states.specs.Courses.{course_rate}
-use Rattle.states.specs.Effects.{travel_to}
-use Rattle.states.proofs.Asked.{accepted}
-use Rattle.ticks.specs.Blocks.{holds_by, done_with, with_words, block_target, block_verdict, begun_with, block_run, next_run}
-use Rattle.laws.specs.Kept.{KeptIn, OnWay, KeptWith, KeptBy, Quiet}
+use Rattle.ticks.specs.Blocks.{with_words, block_target, block_verdict, begun_with, block_run, next_run}
+use Rattle.laws.specs.Kept.{KeptIn, KeptWith, KeptBy}
 use Rattle.laws.proofs.NewMove.{new_move, attains}
 
--- of what a done block leaves, nothing is asked
-done_by : (a b : Bool) (c : Course) (d : RawData) (m : Meaning) (zero : ℤ) (r : Bool)
-    → KeptIn (cond a standing (cond b (held c None) (between c))) d m zero r
-done_by true b c d m zero r = tt
-done_by false true c d m zero r = tt
-done_by false false c d m zero r = tt
-
-pub done_keeps : (mode : ℕ) (moved : Bool) (c : Course) (d : RawData) (m : Meaning) (zero : ℤ) (r : Bool)
-    → KeptIn (done_with mode moved c) d m zero r
-done_keeps mode moved c d m zero r =
-    done_by (ends_by c.auxiliary) (holds_by c.auxiliary || (moved && eqb mode 9)) c d m zero r
-
 module _ (d : RawData) (m : Meaning) (w : Work) (k : KeptWith d m w) where
+  -- with the axis where it is, only what it does is to be shown
+  doing_keeps : {mode auxiliary : ℕ} {fault : Option AxisFault} {in_position : Bool} {p : Phase}
+      → KeptIn p d m w.zero w.referenced
+      → KeptWith d m (record {
+        mode = mode;
+        auxiliary = auxiliary;
+        fault = fault;
+        offset = w.offset;
+        tool = w.tool;
+        coordinate = w.coordinate;
+        zero = w.zero;
+        referenced = w.referenced;
+        in_position = in_position;
+        phase = p;
+      })
+  doing_keeps h = record { range = k.range; agree = k.agree; drift = k.drift; limits = k.limits; doing = h }
+
   -- a block with X, accepted or refused
   begun_keeps : (v : Result Aim Cause) (c : Course) (x : ℤ) → block_verdict (Some d) c x m w ≡ v
       → KeptWith d m (begun_with v (Some d) c w)
   begun_keeps (Ok aim) c x e =
       let rate = course_rate d c in
       let target = block_target d c x w in
-      let q = accepted (move_questions d rate target m w.zero w.referenced) (aim_for d rate target m w.zero) aim e in
-      let a = attains d rate target m w.zero w.referenced q.0 in
-      record {
-        range = k.range;
-        agree = k.agree;
-        drift = k.drift;
-        limits = k.limits;
-        doing =
-            subst (λ (i : Aim). OnWay d m w.zero w.referenced (travel_to (Some d) i (Some c) w)) q.1
-            (new_move d m w rate target (Some c) k a);
-      }
-  begun_keeps (Err cause) c x e =
-      record { range = k.range; agree = k.agree; drift = k.drift; limits = k.limits; doing = tt }
+      let a = attains d rate target m w.zero w.referenced aim e in
+      doing_keeps (rw (← a.1) (new_move d m w rate target (Some c) k a.0))
+  begun_keeps (Err cause) c x e = doing_keeps tt
 
   -- a block with or without X
   block_keeps : (x : Option ℤ) (c : Course) → KeptWith d m (block_run x c m (Some d) w)
-  block_keeps None c = record {
-    range = k.range;
-    agree = k.agree;
-    drift = k.drift;
-    limits = k.limits;
-    doing = done_keeps w.mode false c d m w.zero w.referenced;
-  }
+  block_keeps None c = doing_keeps (grind arith)
   block_keeps (Some x) c = begun_keeps (block_verdict (Some d) c x m w) c x refl
 
   next_keeps : (b : Option Block) (c : Course) → KeptWith d m (next_run b c m (Some d) w)
-  next_keeps None c = record { range = k.range; agree = k.agree; drift = k.drift; limits = k.limits; doing = tt }
+  next_keeps None c = doing_keeps tt
   next_keeps (Some b) c = block_keeps b.target (with_words b c)
 
 -- without machine data no program runs
 pub take_keeps : (o : Option RawData) (b : Option Block) (c : Course) (m : Meaning) (w : Work) → w.phase ≡ between c
     → KeptBy o m w → KeptBy o m (next_run b c m o w)
-take_keeps None b c m w e k = let f = k.0 in let z : ◌≡◌ {A = ℕ} 0 1 = cc in absurd (omega arith)
+take_keeps None b c m w e k = cc
 take_keeps (Some d) b c m w e k = next_keeps d m w k b c
-
--- the mode stays
-begun-mode : (v : Result Aim Cause) (o : Option RawData) (c : Course) (w : Work) → (begun_with v o c w).mode ≡ w.mode
-begun-mode (Ok aim) o c w = refl
-begun-mode (Err cause) o c w = refl
-
-block_mode : (x : Option ℤ) (c : Course) (m : Meaning) (o : Option RawData) (w : Work) → (block_run x c m o w).mode ≡ w.mode
-block_mode None c m o w = refl
-block_mode (Some x) c m o w = begun-mode (block_verdict o c x m w) o c w
-
-next_mode : (b : Option Block) (c : Course) (m : Meaning) (o : Option RawData) (w : Work) → (next_run b c m o w).mode ≡ w.mode
-next_mode None c m o w = refl
-next_mode (Some b) c m o w = block_mode b.target (with_words b c) m o w
-
--- a program runs in mode 8 or 9, where nothing is asked of what shows
-in_program : (w v : Work) (c : Course) → w.phase ≡ between c → v.mode ≡ w.mode → Quiet w → Quiet v
-in_program w v c e h q n =
-    let p = q (ap (λ (x : ℕ). eqb x 8 || eqb x 9) (sym h) ∙ n) in
-    let f = p.1 in
-    let g : course_of w.phase ≡ Some c = ap course_of e in
-    let z : ◌≡◌ {A = ℕ} 0 1 = cc in
-    absurd (omega arith)
-
-pub take_quiet : (o : Option RawData) (b : Option Block) (c : Course) (m : Meaning) (w : Work) → w.phase ≡ between c
-    → Quiet w → Quiet (next_run b c m o w)
-take_quiet o b c m w e q = in_program w (next_run b c m o w) c e (next_mode b c m o w) q

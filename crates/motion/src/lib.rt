@@ -18,5 +18,5 @@ pub use fault::DataFault;
 pub use machine::MachineData;
 pub use mover::Mover;
 pub use passed::Passed;
-pub use ranges::REACH;
 pub use raw::RawData;
+pub use units::REACH;

@@ -8,7 +8,7 @@ use crate::machine::MachineData;
 // A place on the ramp: a step, with the sum over the steps up to it, so that no tick sums the ramp.
 #[derive(Clone, Copy)]
 pub(crate) struct Place {
-    // 0 before the first step
+    // 0 before the first step, where braking comes down to again: a number of the rules like the others
     pub(crate) step: u32,
     pub(crate) sum: u64,
 }
@@ -19,7 +19,7 @@ impl Place {
 }
 
 /// Machine data with the numbers of a move in progress.
-// Ghost fields and no model: the law over all movers names them.
+// Ghost fields and no model: the law over all movers rests on them.
 #[derive(Drop)]
 pub struct Mover {
     pub(crate) machine: MachineData,

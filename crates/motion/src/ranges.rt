@@ -3,9 +3,7 @@ ghost use Rattle.motion.specs.Data.{Reachable, Frequencies, Signal, Gear, Limits
 ghost use Rattle.motion.specs.Questions.{reachable, frequencies, signal, gear, limits, offsets, in_range};
 
 use crate::raw::RawData;
-
-/// The greatest coordinate, in units, to either side of zero.
-pub const REACH: i32 = 40_000_000;
+use units::REACH;
 
 fn is_reachable(c: i32) -> bool
     ensures value { result ≡ reachable c }

@@ -8,7 +8,7 @@ ghost use Rattle.orders.specs.Questions.{verdict, verdict_in, standing_verdict, 
 
 use crate::modes::{admits, needs_reference, values_fit};
 use crate::plan::{Accepted, Plan};
-use states::{AxisView, Cause, Command, Mode, Order, REACH, Reading, Record, State, Wish};
+use states::{AxisView, Cause, Command, Mode, Order, Reading, Record, Span, State, Wish};
 use store::Store;
 
 /// An order to an axis whose drive reads so, with the programs in store.
@@ -118,6 +118,9 @@ impl StandingRequest<'_> {
         Ok(Plan::Go(self.view.ask_move(wish)?))
     }
 
+    // Each gives a wish, and no bare target with the rate asked once in `go`: a number that is handed on is
+    // known by its bits, and every call would need a proof by hand.
+
     // As far as the axis may go.
     fn jog(&self) -> Wish
         ensures { (g : Going) → result ≡ record { target = jog_target self.now.view.machine.now self.now.order (work_of g self.now.view.work.now); rate = rate_by self.now.view.machine.now self.now.order.word } }
@@ -189,9 +192,7 @@ impl StandingRequest<'_> {
         ensures { result ≡ start_verdict self.now.view.machine.now self.now.order self.now.store.now }
     {
         let program = self.order.byte;
-        let Some(measure) = self.store.measure_of(program) else {
-            return Err(Cause::NotStored);
-        };
+        let measure = self.store.measure_of(program).ok_or(Cause::NotStored)?;
         if measure != self.view.machine.values().measure {
             return Err(Cause::OtherMeasure);
         }
@@ -221,9 +222,5 @@ impl StandingRequest<'_> {
 fn ask_shift(units: i64) -> Result<i32, Cause>
     ensures { result ≡ shift_verdict units }
 {
-    let reach = i64::from(REACH);
-    if !(-reach..=reach).contains(&units) {
-        return Err(Cause::ShiftOutside);
-    }
-    Ok(units as i32)
+    Span::REACH.within(units).ok_or(Cause::ShiftOutside)
 }

@@ -8,7 +8,7 @@ ghost use Rattle.orders.specs.Effects.{taken, taken_over, zeroed, gone_on, halte
 
 use crate::plan::{Accepted, Plan};
 use motion::MachineData;
-use states::{AxisFault, Cause, Hold, Mode, Reading, Record, Run, State};
+use states::{AxisFault, Cause, Hold, Mode, NO_AUXILIARY, Reading, Record, Run, State};
 
 /// Carries out what an accepted order is to do.
 // Axis and reading stand apart here, since the axis is changed.
@@ -67,7 +67,7 @@ fn take(axis: &mut Record, mode: Mode)
     ensures { status_of axis.new ≡ with_work (taken (mode_number mode) (status_of axis.old).work) (status_of axis.old) }
 {
     take_over(axis, mode);
-    axis.work.auxiliary = 2;
+    axis.work.auxiliary = NO_AUXILIARY;
     axis.work.state = State::Standing;
 }
 
@@ -111,6 +111,7 @@ fn go_on(state: &mut State)
     }
 }
 
+// The bound is of this difference alone, and no fact of a type.
 // The count at zero that makes the reference coordinate the place where the drive is.
 fn zero_of(machine: &MachineData, reading: Reading) -> i64
     ensures value { result ≡ (reading.count -ℤ pulses_by machine.now machine.now.reference) }

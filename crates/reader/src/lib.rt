@@ -36,7 +36,8 @@ pub fn read_line(line: &[u8], measure: Measure, blocks: usize) -> Result<Option<
     judge(line, measure, blocks)
 }
 
-// The questions in their order; the limits come before the per cent sign.
+// The questions in their order; the limits come before the per cent sign. Apart from `read_line`, whose
+// laws are more than search finds beside the questions.
 fn judge(line: &[u8], measure: Measure, blocks: usize) -> Result<Option<Block>, LineFault>
     ensures { result ≡ verdict measure blocks line.now }
 {

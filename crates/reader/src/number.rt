@@ -3,12 +3,13 @@ ghost use Rattle.std.specs.List.{prefix_len};
 ghost use Rattle.std.specs.Option.{option_map};
 ghost use Rattle.reader.specs.Words.{digit, all_digits, onto, upto, negative, body, fraction, Split, decimal, limited, units_of};
 
-use units::Measure;
+use units::{Measure, REACH};
 
-// The greatest X, in units, as for an axis; the reader stands on no crate that knows axes.
-const MOST_UNITS: u32 = 40_000_000;
+// The greatest X, in units, as a magnitude.
+const MOST_UNITS: u32 = REACH as u32;
 
-// How many digits stand in front. This, blank_len and number_len are one iterator expression each; a function over the test would only name it again.
+// How many digits stand in front. This, blank_len and number_len are one iterator expression each; a
+// function over the test would only name it again.
 fn digit_len(bytes: &[u8]) -> usize
     ensures value { result ≡ prefix_len digit bytes.now }
     ensures bound { result ≤ length bytes.now }
@@ -23,7 +24,8 @@ pub(crate) fn all_digits(bytes: &[u8]) -> bool
 }
 
 // `start` with the digits written after it, if that is at most `most`.
-// It is a loop, and no fold, since the value of the previous step, at most `most`, is what keeps the next one in a `u32`.
+// It is a loop, and no fold: it ends at the first value above `most`, so that the step before keeps the
+// next one in a `u32`. A fold would have to check each step's product and sum, which no digit needs.
 pub(crate) fn value_upto(start: u32, digits: &[u8], most: u32) -> Option<u32>
     requires start { start ≤ most }
     requires most { most ≤ 100000000 }

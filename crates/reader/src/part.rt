@@ -46,7 +46,8 @@ pub(crate) struct Word<'a> {
     pub(crate) number: &'a [u8],
 }
 
-// A word or a remark of a line, with the byte at which it starts.
+// A word or a remark of a line, with the byte at which it starts. A case of its own for each with its
+// place: what is read is one or the other at a place, and no part stands without one.
 #[derive(Clone, Copy)]
 pub(crate) enum Part<'a> {
     Word { word: Word<'a>, at: usize },
@@ -72,7 +73,8 @@ impl Word<'_> {
     }
 }
 
-// How many blanks stand in front. This, number_len and digit_len are one iterator expression each; a function over the test would only name it again.
+// How many blanks stand in front. This, number_len and digit_len are one iterator expression each; a
+// function over the test would only name it again.
 fn blank_len(bytes: &[u8]) -> usize
     ensures value { result ≡ prefix_len blank bytes.now }
     ensures bound { result ≤ length bytes.now }
@@ -116,6 +118,7 @@ fn word_at<'a>(at: usize, first: u8, tail: Rest<'a>) -> Result<(Part<'a>, Rest<'
     requires no_remark { first ≢ 40 }
     ensures { Begins tail.entry.measure at (first ∷ tail.entry.bytes.now) result }
 {
+    // What is unknown has nothing to hand on, so that `map_err` would be no shorter.
     let Ok(letter) = Letter::try_from(first) else {
         return Err(LineFault::Form { at });
     };

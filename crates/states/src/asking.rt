@@ -11,7 +11,7 @@ use crate::working::Working;
 use motion::{MachineData, REACH};
 
 // The ends have the names that machine data give them; a range of the library would not.
-/// The least and the greatest target of a move.
+/// A least and a greatest coordinate.
 #[derive(Clone, Copy)]
 pub struct Span {
     pub low: i32,
@@ -19,12 +19,18 @@ pub struct Span {
 }
 
 impl Span {
-    // The target of a wish that stays within.
-    fn target_of(self, wish: Wish) -> Option<i32>
-        ensures { result ≡ cond (int_le self.low wish.target && int_le wish.target self.high) (Some wish.target) None }
+    /// All coordinates that machine data and orders may name.
+    pub const REACH: Span = Span {
+        low: -REACH,
+        high: REACH,
+    };
+
+    /// A coordinate that lies within.
+    pub fn within(self, units: i64) -> Option<i32>
+        ensures { result ≡ cond (int_le self.low units && int_le units self.high) (Some units) None }
     {
-        let target = i32::try_from(wish.target).ok()?;
-        (self.low..=self.high).contains(&target).then_some(target)
+        let units = i32::try_from(units).ok()?;
+        (self.low..=self.high).contains(&units).then_some(units)
     }
 }
 
@@ -34,6 +40,22 @@ pub struct AxisView<'a> {
     pub work: &'a Working,
     pub machine: &'a MachineData,
     pub reading: Reading,
+}
+
+impl Working {
+    /// The limits of the machine data; without a reference those of a jog.
+    pub fn limits(&self, machine: &MachineData) -> Span
+        ensures { result ≡ record { low = lowest_of machine.now self.now.referenced; high = highest_of machine.now self.now.referenced } }
+    {
+        if !self.referenced {
+            return Span::REACH;
+        }
+        let values = machine.values();
+        Span {
+            low: values.low,
+            high: values.high,
+        }
+    }
 }
 
 impl Record {
@@ -60,9 +82,10 @@ impl AxisView<'_> {
         if !self.rate_fits(wish) {
             return Err(Cause::RateOutside);
         }
-        let Some(target) = self.limits().target_of(wish) else {
-            return Err(Cause::TargetOutside);
-        };
+        let target = self
+            .limits()
+            .within(wish.target)
+            .ok_or(Cause::TargetOutside)?;
         self.ask_way(target, wish.rate)
     }
 
@@ -83,22 +106,11 @@ impl AxisView<'_> {
         (1..=u64::from(self.machine.values().fm)).contains(&wish.rate)
     }
 
-    /// The limits of the machine data; without a reference those of a jog.
+    /// The limits of its targets.
     pub fn limits(&self) -> Span
         ensures { result ≡ record { low = lowest_of self.now.machine.now self.now.work.now.referenced; high = highest_of self.now.machine.now self.now.work.now.referenced } }
     {
-        if self.work.referenced {
-            let values = self.machine.values();
-            Span {
-                low: values.low,
-                high: values.high,
-            }
-        } else {
-            Span {
-                low: -REACH,
-                high: REACH,
-            }
-        }
+        self.work.limits(self.machine)
     }
 
     /// A move to a target, with its distance from where the drive is.

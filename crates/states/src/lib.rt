@@ -30,4 +30,4 @@ pub use order::{Command, Order};
 pub use reading::Reading;
 pub use record::{Record, Switches};
 pub use state::{Hold, Journey, Run, State};
-pub use working::Working;
+pub use working::{NO_AUXILIARY, Working};

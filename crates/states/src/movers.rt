@@ -8,6 +8,9 @@ ghost use Rattle.states.specs.Moves.{ticked_in, braked_in, begun_in};
 use crate::aim::Aim;
 use motion::{Mover, Passed};
 
+// The machine data of an axis and the move in progress stand in an option of the library's: a type around
+// it would have these functions as methods and nothing more.
+
 // A step of the move in progress. Without machine data there is no move, and nothing changes.
 fn step_in<F: FnOnce(&mut Mover) -> Passed>(machine: &mut Option<Mover>, step: F) -> Passed
     requires { F.IsAlwaysCallable step }

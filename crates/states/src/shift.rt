@@ -49,6 +49,14 @@ impl Working {
     {
         i64::from(self.offset) + i64::from(self.tool)
     }
+
+    /// The shift inside a program that has chosen this offset.
+    pub fn shift_with(&self, chosen: i32) -> i64
+        ensures value { result ≡ ((self.now.offset +ℤ self.now.tool) +ℤ chosen) }
+        ensures small { unsigned_abs result ≤ 6442450944 }
+    {
+        self.own_shift() + i64::from(chosen)
+    }
 }
 
 impl Record {
@@ -67,6 +75,6 @@ impl Record {
         ensures value { result ≡ shift_of (raw_in self.now.machine) (status_of self.now).work }
         ensures small { unsigned_abs result ≤ 6442450944 }
     {
-        self.work.own_shift() + i64::from(self.program_offset())
+        self.work.shift_with(self.program_offset())
     }
 }

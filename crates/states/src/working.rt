@@ -4,6 +4,9 @@ use crate::fault::AxisFault;
 use crate::mode::Mode;
 use crate::state::State;
 
+/// The M number that observing shows where no block has given one.
+pub const NO_AUXILIARY: u8 = 2;
+
 /// The working values of an axis.
 #[derive(Clone, Copy)]
 pub struct Working {
@@ -36,7 +39,7 @@ impl Working {
     {
         Working {
             mode: Mode::AxisOff,
-            auxiliary: 2,
+            auxiliary: NO_AUXILIARY,
             fault: None,
             offset: 0,
             tool: 0,

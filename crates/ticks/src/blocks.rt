@@ -12,6 +12,8 @@ use states::effects::fault_in;
 use states::{Aim, AxisFault, AxisView, Cause, Reading, Record, Run, State, Wish};
 use store::Store;
 
+// Axis and program stand apart in what changes the axis; what only asks has both in a `BlockMove`.
+
 /// Takes the next block of a program; one that has none left is over.
 pub fn take(axis: &mut Record, reading: Reading, store: &Store, run: Run) -> Result<(), AxisFault>
     ensures value { result ≡ take_reply store.now (course_in run) reading (status_of axis.old) }
@@ -30,9 +32,6 @@ pub fn take(axis: &mut Record, reading: Reading, store: &Store, run: Run) -> Res
     let asked = ask_block(axis, reading, run, x);
     begin(axis, asked, run)
 }
-
-// Axis and program go together from here on: until the block is accepted the program is none of the
-// axis's, so no struct or field holds both.
 
 // The block's words take effect before its X is reckoned.
 fn with_words(block: &Block, run: Run) -> Run
@@ -81,6 +80,7 @@ fn begin(axis: &mut Record, asked: Result<Aim, Cause>, run: Run) -> Result<(), A
 fn ask_block(axis: &Record, reading: Reading, run: Run, x: i32) -> Result<Aim, Cause>
     ensures { result ≡ block_verdict (raw_in axis.now.machine) (course_in run) x reading (status_of axis.now).work }
 {
+    // `ok_or` would take what borrows the axis by value, which gets no proof by itself.
     let Some(view) = axis.view(reading) else {
         return Err(Cause::NoMachineData);
     };
@@ -119,17 +119,8 @@ impl BlockMove<'_> {
     fn shifted(&self) -> i64
         ensures { result ≡ (self.now.x +ℤ ((self.now.view.work.now.offset +ℤ self.now.view.work.now.tool) +ℤ offset_by self.now.view.machine.now self.now.run.offset)) }
     {
-        let shift = self.shift();
-        i64::from(self.x) + shift
-    }
-
-    fn shift(&self) -> i64
-        ensures value { result ≡ ((self.now.view.work.now.offset +ℤ self.now.view.work.now.tool) +ℤ offset_by self.now.view.machine.now self.now.run.offset) }
-        ensures small { unsigned_abs result ≤ 6442450944 }
-    {
-        let own = self.view.work.own_shift();
-        let chosen = i64::from(self.run.chosen_offset(self.view.machine));
-        own + chosen
+        let chosen = self.run.chosen_offset(self.view.machine);
+        i64::from(self.x) + self.view.work.shift_with(chosen)
     }
 
     // Under G91: a distance from the coordinate.

@@ -71,23 +71,19 @@ fn held(run: Run, unfinished: Option<i32>) -> State
 fn after_move(mode: Mode, run: Option<Run>) -> State
     ensures { (g : Going) → phase_of g result ≡ after_move (mode_number mode) (course_if run) }
 {
-    match run {
-        None => State::Standing,
-        Some(run) => after_block(mode, true, run),
-    }
+    run.map_or(State::Standing, |run| after_block(mode, true, run))
 }
 
 // A move has stopped short: its program is held.
 fn stopped_short(journey: Journey) -> State
     ensures { (g : Going) → phase_of g result ≡ stopped_short journey.target (course_if journey.run) }
 {
-    match journey.run {
-        None => State::Standing,
-        Some(run) => held(run, Some(journey.target)),
-    }
+    let target = Some(journey.target);
+    journey.run.map_or(State::Standing, |run| held(run, target))
 }
 
-// Axis and reading go together here and in the taking of blocks: a struct of both would have to hold the axis that is changed.
+// Axis and reading go together here and in the taking of blocks. A struct of both would borrow the axis to
+// change it, and its contracts would speak of the axis before and after through that borrow.
 
 // Whether the move is complete, or the axis stands, is what its tick answered. Two functions of each
 // would leave to every caller what is decided here once.

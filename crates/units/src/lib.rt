@@ -1,8 +1,11 @@
-//! The measure that an axis and a program count in.
+//! What an axis and a program have in common: the measure, and the greatest coordinate.
 #![tactic(auto)]
 
 ghost use Rattle.std.specs.Prelude.{◌≡◌};
 ghost use Rattle.units.specs.Measures.{places, units_in, UnitsByPlaces};
+
+/// The greatest coordinate, in units, to either side of zero.
+pub const REACH: i32 = 40_000_000;
 
 /// What one unit is.
 #[derive(Clone, Copy, PartialEq, Eq, Debug)]

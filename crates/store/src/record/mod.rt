@@ -6,7 +6,7 @@ mod closing;
 mod fill;
 
 /// One program, with room for all its blocks from the beginning.
-/// Of a free record the fields mean nothing.
+/// Of a free record the fields mean nothing; it stays a record, whose room for blocks is a fact of its type.
 #[derive(Drop)]
 pub(crate) struct Record {
     number: u8,

@@ -110,9 +110,7 @@ impl Store {
         ensures value { result ≡ delete_reply number self.old }
         ensures after { self.new ≡ deleted number self.old }
     {
-        let Some(i) = self.position(number) else {
-            return Err(StoreFault::NotStored(number));
-        };
+        let i = self.position(number).ok_or(StoreFault::NotStored(number))?;
         let record = self.stored.remove(i);
         self.free.push_reserved(record);
         Ok(())

@@ -1,6 +1,6 @@
 use Rattle.std.proofs.Common.{arith}
 use Rattle.std.proofs.lemmas.Grind.{common_steps}
-use Rattle.states.proofs.asking.Span.target_of.Goals as goal
+use Rattle.states.proofs.asking.Span.within.Goals as goal
 
 pub returns : goal.returns
 returns c = grind (arith, common_steps)
