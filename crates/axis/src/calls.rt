@@ -1,6 +1,7 @@
 ghost use Rattle.std.specs.Prelude.{◌≡◌};
 ghost use Rattle.states.specs.Observation.{shown_by, observed};
 ghost use Rattle.states.specs.Entry.{enter_reply, delete_reply};
+ghost use Rattle.states.specs.State.{uses};
 ghost use Rattle.orders.specs.Orders.{order_reply};
 ghost use Rattle.laws.specs.Acts.{enter_axis, delete_axis, order_axis, levels_step};
 ghost use Rattle.laws.specs.Shows.{Feedback};
@@ -59,6 +60,6 @@ impl<D: Drive> Axis<D> {
     pub fn uses(&self, program: u8) -> bool
         ensures { result ≡ uses program self.now.status.work.phase }
     {
-        self.status.uses(program)
+        self.status.work.state.uses(program)
     }
 }

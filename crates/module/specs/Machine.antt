@@ -8,7 +8,7 @@ use Rattle.store.specs.Programs.{Programs, empty, found}
 use Rattle.store.specs.Entry.{open_done, open_reply, opened, add_reply, added, close_reply, closed, abandon_reply, abandoned, deleted}
 use Rattle.states.specs.declared.fault.AxisFault.{AxisFault}
 use Rattle.states.specs.declared.observation.Observation.{Observation}
-use Rattle.states.specs.State.{Course, AxisState, Status, course_of}
+use Rattle.states.specs.State.{AxisState, uses}
 use Rattle.states.specs.Entry.{enter_reply, delete_reply}
 use Rattle.states.specs.Observation.{Shown, shown_by, observed}
 use Rattle.orders.specs.Orders.{names_program, order_reply}
@@ -75,19 +75,18 @@ at_store (Ok u) = done
 at_store (Err e) = refused (OfStore e)
 
 -- a program is in use while an axis runs or holds it
-abbrev pub is_of : ℕ → Option Course → Bool
-is_of n None = false
-is_of n (Some c) = c.program == n
-
-abbrev pub uses : ℕ → AxisState → Bool
-uses n a = is_of n (course_of a.status.work.phase)
+abbrev pub uses_in : ℕ → AxisState → Bool
+uses_in n a = uses n a.status.work.phase
 
 abbrev pub in_use : ℕ → Machine → Bool
-in_use n s = uses n s.first || (uses n s.second || uses n s.third)
+in_use n s = uses_in n s.first || (uses_in n s.second || uses_in n s.third)
 
 -- 14, then 36
 abbrev pub deletion_reply : ℕ → Machine → Told
 deletion_reply n s = cond (is_some (found n s.programs.stored)) (cond (in_use n s) (refused (InUse n)) done) (refused (OfStore (NotStored n)))
+
+abbrev pub adding_reply : ℕ → List ℕ → Machine → Told
+adding_reply n line s = at_store (add_reply n line s.programs)
 
 abbrev pub reply : Call → Machine → Told
 reply (OnAxis axis act) s =
@@ -96,13 +95,19 @@ reply (OnAxis axis act) s =
     (cond (axis == 3) (at_axis 3 (answered act s.programs s.third))
     (refused (NoSuchAxis axis (named act)))))
 reply (Open n m) s = at_store (open_done n s.programs)
-reply (Add n line) s = at_store (add_reply n line.now s.programs)
+reply (Add n line) s = adding_reply n line.now s
 reply (Close n) s = at_store (close_reply n s.programs)
 reply (Abandon n) s = at_store (abandon_reply n s.programs)
 reply (DeleteProgram n) s = deletion_reply n s
 
 abbrev pub with_programs : Programs → Machine → Machine
 with_programs p s = record { first = s.first; second = s.second; third = s.third; programs = p }
+
+abbrev pub adding : ℕ → List ℕ → Machine → Machine
+adding n line s = with_programs (added n line s.programs) s
+
+abbrev pub deletion : ℕ → Machine → Machine
+deletion n s = cond (is_some (found n s.programs.stored)) (cond (in_use n s) s (with_programs (deleted n s.programs) s)) s
 
 abbrev pub if_named : Bool → Act → Programs → AxisState → AxisState
 if_named b act p a = cond b (acted act p a) a
@@ -116,10 +121,10 @@ step (OnAxis axis act) s = record {
   programs = s.programs;
 }
 step (Open n m) s = with_programs (opened n m s.programs) s
-step (Add n line) s = with_programs (added n line.now s.programs) s
+step (Add n line) s = adding n line.now s
 step (Close n) s = with_programs (closed n s.programs) s
 step (Abandon n) s = with_programs (abandoned n s.programs) s
-step (DeleteProgram n) s = cond (in_use n s) s (with_programs (deleted n s.programs) s)
+step (DeleteProgram n) s = deletion n s
 
 -- A RUN
 

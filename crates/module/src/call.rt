@@ -3,6 +3,7 @@ ghost use Rattle.module.specs.Machine.{named};
 
 use axis::Levels;
 use motion::RawData;
+use orders::names_program;
 use states::{Observation, Order};
 use units::Measure;
 
@@ -23,7 +24,7 @@ impl Act {
         ensures { result ≡ named self.now }
     {
         match self {
-            Act::Order(order) if order.names_program() => order.byte,
+            Act::Order(order) if names_program(*order) => order.byte,
             _ => 0,
         }
     }

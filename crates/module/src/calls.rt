@@ -17,8 +17,8 @@ use store::StoreFault;
 impl<X: Drive, Y: Drive, Z: Drive> Module<X, Y, Z> {
     /// A call as it comes over the cable. An entry is then named by its number.
     pub fn call(&mut self, call: Call) -> Result<Answer, Fault>
-        ensures value { said_by result ≡ reply call self.old }
-        ensures after { self.new ≡ step call self.old }
+        ensures value { said_by result ≡ reply call.entry self.old }
+        ensures after { self.new ≡ step call.entry self.old }
     {
         match call {
             Call::OnAxis { axis, act } => return self.on_axis(axis, act),
@@ -39,7 +39,10 @@ impl<X: Drive, Y: Drive, Z: Drive> Module<X, Y, Z> {
             1 => perform(&mut self.first, &self.store, act),
             2 => perform(&mut self.second, &self.store, act),
             3 => perform(&mut self.third, &self.store, act),
-            _ => return Err(Fault::NoSuchAxis { axis, program: act.program() }),
+            _ => return Err(Fault::NoSuchAxis {
+                axis,
+                program: act.program(),
+            }),
         };
         answer.map_err(|fault| Fault::OfAxis { axis, fault })
     }

@@ -1,7 +1,7 @@
 ghost use Rattle.std.specs.Prelude.{◌≡◌};
 ghost use Rattle.store.specs.Entry.{close_answer, abandon_answer};
-ghost use Rattle.module.specs.declared.call.Call.TheVariants.{Open, Add, Close, Abandon};
-ghost use Rattle.module.specs.Machine.{opened_reply, refusal_in, reply, step};
+ghost use Rattle.module.specs.declared.call.Call.TheVariants.{Open, Close, Abandon};
+ghost use Rattle.module.specs.Machine.{opened_reply, adding_reply, adding, refusal_in, step};
 
 use crate::fault::Fault;
 use crate::three::Module;
@@ -21,8 +21,8 @@ impl<X: Drive, Y: Drive, Z: Drive> Module<X, Y, Z> {
 
     /// Adds a line to the open entry: 30 to 34.
     pub fn add(&mut self, entry: &Entry, line: &[u8]) -> Result<(), Fault>
-        ensures value { result ≡ refusal_in (reply (Add entry.now.number line) self.old) }
-        ensures after { self.new ≡ step (Add entry.now.number line) self.old }
+        ensures value { result ≡ refusal_in (adding_reply entry.now.number line.now self.old) }
+        ensures after { self.new ≡ adding entry.now.number line.now self.old }
     {
         Ok(self.store.add(entry, line)?)
     }

@@ -1,5 +1,5 @@
 ghost use Rattle.std.specs.Prelude.{◌≡◌};
-ghost use Rattle.module.specs.Machine.{acted, answered, shows, answer_by};
+ghost use Rattle.module.specs.Machine.{acted, answered, answer_by};
 
 use crate::call::{Act, Answer};
 use axis::Axis;
@@ -8,7 +8,11 @@ use states::AxisFault;
 use store::Store;
 
 // What an axis does and answers, with the programs in store.
-pub(crate) fn perform<D: Drive>(axis: &mut Axis<D>, store: &Store, act: Act) -> Result<Answer, AxisFault>
+pub(crate) fn perform<D: Drive>(
+    axis: &mut Axis<D>,
+    store: &Store,
+    act: Act,
+) -> Result<Answer, AxisFault>
     ensures value { answer_by result ≡ answered act store.now axis.old }
     ensures after { axis.new ≡ acted act store.now axis.old }
 {

@@ -8,5 +8,5 @@ pub mod ordering;
 pub mod plan;
 
 pub use asking::Request;
-pub use ordering::order;
+pub use ordering::{names_program, order};
 pub use plan::{Accepted, Plan};

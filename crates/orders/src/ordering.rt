@@ -56,8 +56,8 @@ fn located(order: Order, state: &State, cause: Cause) -> AxisFault
     cause.into()
 }
 
-// A start of mode 8 or 9 names a program by its byte.
-fn names_program(order: Order) -> bool
+/// A start of mode 8 or 9 names a program by its byte.
+pub fn names_program(order: Order) -> bool
     ensures { result ≡ names_program order }
 {
     order.command == Command::Start && matches!(Mode::try_from(order.mode), Ok(Mode::Program(_)))

@@ -1,5 +1,5 @@
 -- The state of one axis, as the rules speak of it.
-use Rattle.std.specs.Prelude.{ℕ, Bool, true, false, ℤ, Some, None, Option}
+use Rattle.std.specs.Prelude.{ℕ, Bool, true, false, ℤ, Some, None, Option, ◌==◌}
 use Rattle.reader.specs.declared.block.Motion.{Motion}
 use Rattle.reader.specs.declared.block.OffsetChoice.{OffsetChoice}
 use Rattle.reader.specs.declared.block.Way.{Way}
@@ -89,6 +89,14 @@ course_of (moving t) = t.course
 course_of (braking t) = t.course
 course_of (held c u) = Some c
 course_of (between c) = Some c
+
+-- whether a program is the one that runs or is held
+abbrev pub is_of : ℕ → Option Course → Bool
+is_of n None = false
+is_of n (Some c) = c.program == n
+
+abbrev pub uses : ℕ → Phase → Bool
+uses n p = is_of n (course_of p)
 
 -- a stop: a move is braked, then its program held; with no move the program is held at once
 abbrev pub stopped : Phase → Phase

@@ -1,7 +1,7 @@
 ghost use Rattle.std.specs.Prelude.{◌≡◌, ◌≤◌, ◌+ℤ◌, unsigned_abs};
 ghost use Rattle.motion.specs.Travel.{Going};
 ghost use Rattle.states.specs.View.{course_in, course_if, raw_in, status_of, phase_of};
-ghost use Rattle.states.specs.State.{course_of};
+ghost use Rattle.states.specs.State.{course_of, uses};
 ghost use Rattle.states.specs.Shift.{offset_by, program_offset, own_shift, shift_of};
 
 use crate::record::Record;
@@ -27,6 +27,13 @@ impl Run {
 }
 
 impl State {
+    /// Whether this program runs or is held.
+    pub fn uses(&self, program: u8) -> bool
+        ensures { (g : Going) → result ≡ uses program (phase_of g self.now) }
+    {
+        self.run().is_some_and(|run| run.program == program)
+    }
+
     /// The program that runs or is held.
     pub fn run(&self) -> Option<Run>
         ensures { (g : Going) → course_if result ≡ course_of (phase_of g self.now) }
