@@ -2,3 +2,4 @@ pub mod State
 pub mod Faults
 pub mod Machine
 pub mod Made
+pub mod Promise

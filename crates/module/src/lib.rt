@@ -7,8 +7,10 @@ mod entries;
 pub mod fault;
 mod made;
 mod one_axis;
+mod runs;
 pub mod three;
 
 pub use call::{Act, Answer, Call};
 pub use fault::{Fault, Place};
+pub use runs::{Ran, run};
 pub use three::{Drives, Module, NotMade};
