@@ -2,3 +2,4 @@ pub mod Acts
 pub mod Kept
 pub mod Laws
 pub mod Shows
+pub mod Reckoned

@@ -2,4 +2,5 @@ pub mod State
 pub mod Faults
 pub mod Machine
 pub mod Made
+pub mod Heard
 pub mod Promise

@@ -1,20 +1,85 @@
 -- What a run of calls on a new module promises.
-use Rattle.std.specs.Prelude.{◌≡◌, List, map, vec_items, Ok, Err, Result}
+use Rattle.std.specs.Prelude.{◌≡◌, ℕ, ◌≤◌, max, true, false, List, [], ◌∷◌, ◌++◌, ℤ, pos, ◌+ℤ◌, ◌-ℤ◌, map, vec_items, Some, None, Ok, Err, Result}
 use Rattle.drives.specs.Meaning.{Meaning}
+use Rattle.motion.specs.declared.raw.RawData.{RawData}
+use Rattle.motion.specs.Laws.{Near}
+use Rattle.states.specs.declared.order.Order.{Order}
+use Rattle.states.specs.State.{course_of}
+use Rattle.states.specs.Observation.{Shown, observed}
+use Rattle.orders.specs.Modes.{stops}
+use Rattle.laws.specs.Kept.{InLimits}
+use Rattle.laws.specs.Laws.{TakenIn, step_of, stands_in}
+use Rattle.module.specs.declared.call.Act.TheVariants as act
 use Rattle.module.specs.declared.call.Call.{Call}
+use Rattle.module.specs.declared.call.Call.TheVariants.{OnAxis}
 use Rattle.module.specs.declared.three.Drives.{Drives}
 use Rattle.module.specs.declared.three.NotMade.{NotMade}
 use Rattle.module.specs.declared.runs.Ran.{Ran}
-use Rattle.module.specs.Machine.{Told, said_by, new_machine, after, replies}
+use Rattle.module.specs.Machine.{Told, done, said_by, new_machine, step, reply, after, replies}
+use Rattle.module.specs.Heard.{Which, number, axis_at, Heard, heard, data_said, zero_said, offset_said, tool_said, reference_said, ticks_of}
 use Rattle.module.specs.State.{Machine}
 
--- the replies and the drives after the calls are the machine's
+-- EXACT: the replies, and the drives after the calls, are the machine's
 pub record Exact (x y z : Meaning) (calls : List Call) (told : List Told) (x′ y′ z′ : Meaning) : Type 0 where
   pub replies : told ≡ replies (new_machine x y z) calls
   pub first : x′ ≡ (after (new_machine x y z) calls).first.drive
   pub second : y′ ≡ (after (new_machine x y z) calls).second.drive
   pub third : z′ ≡ (after (new_machine x y z) calls).third.drive
 
+-- NO DRIFT: of one axis, from a machine s
+
+-- what observing the axis answers after the calls
+abbrev pub shows : Which → Machine → List Call → Shown
+shows w s calls = observed (axis_at w (after s calls)).status
+
+abbrev pub count : Which → Machine → List Call → ℤ
+count w s calls = (axis_at w (after s calls)).drive.count
+
+-- with machine data, the pulses from the zero that the last zeroing set and the coordinate lie within half a unit or half a
+-- pulse of each other, whichever is more
+abbrev pub DriftBound : Which → Machine → List Call → List Heard → Type 0
+DriftBound w s calls hs = (d : RawData) → data_said hs None ≡ Some d
+    → Near d.units d.pulses (count w s calls -ℤ zero_said hs None (pos 0)) (shows w s calls).coordinate
+
+-- with no program running or held, the shift is what the accepted orders gave
+abbrev pub ShiftLaw : Which → Machine → List Call → List Heard → Type 0
+ShiftLaw w s calls hs = course_of (axis_at w (after s calls)).status.work.phase ≡ None
+    → (shows w s calls).shift ≡ offset_said hs (pos 0) +ℤ tool_said hs (pos 0)
+
+-- with a reference, the coordinate is within the limits
+abbrev pub LimitsLaw : Which → Machine → List Call → List Heard → Type 0
+LimitsLaw w s calls hs = (d : RawData) → data_said hs None ≡ Some d → reference_said hs false ≡ true → InLimits d (shows w s calls).coordinate
+
+-- once the calls that follow have n ticks of the axis, some front of them with at most n leaves it standing
+abbrev pub StandsWithin : Which → ℕ → Machine → List Call → Type 0
+StandsWithin w n s later = n ≤ ticks_of w later
+    → (soon : List Call) × (rest : List Call) × (later ≡ soon ++ rest) × (ticks_of w soon ≤ n) × (stands_in (axis_at w (after s soon)) ≡ true)
+
+-- wherever the calls are split at an accepted stop of the axis, with r the ramp step of its move before it, it stands within
+-- max(r, 1) ticks, whatever calls come between
+abbrev pub StopLaw : Which → Machine → List Call → Type 0
+StopLaw w s calls = (before later : List Call) (o : Order)
+    → calls ≡ before ++ (OnAxis (number w) (act.Order o) ∷ later) → stops o.command ≡ true
+    → reply (OnAxis (number w) (act.Order o)) (after s before) ≡ done
+    → StandsWithin w (max (step_of (axis_at w (after s before))) 1) (step (OnAxis (number w) (act.Order o)) (after s before)) later
+
+-- the drive takes every pulse that a next tick asks of it
+abbrev pub PulsesTaken : Which → Machine → List Call → Type 0
+PulsesTaken w s calls = TakenIn (axis_at w (after s calls)).status.work.phase (axis_at w (after s calls))
+
+pub record NoDrift (w : Which) (s : Machine) (calls : List Call) (hs : List Heard) : Type 0 where
+  pub drift : DriftBound w s calls hs
+  pub shift : ShiftLaw w s calls hs
+  pub limits : LimitsLaw w s calls hs
+  pub stop : StopLaw w s calls
+  pub taken : PulsesTaken w s calls
+
+-- THE PROMISE
+pub record Promise (x y z : Meaning) (calls : List Call) (told : List Told) (x′ y′ z′ : Meaning) : Type 0 where
+  pub exact : Exact x y z calls told x′ y′ z′
+  pub no_drift : (w : Which) → NoDrift w (new_machine x y z) calls (heard w (new_machine x y z) calls told)
+
+-- a run keeps the promise; without memory the drives come back as they were
 abbrev pub Answered : {X Y Z : Type 0} → (X → Meaning) → (Y → Meaning) → (Z → Meaning) → Drives X Y Z → List Call → Result (Ran X Y Z) (NotMade X Y Z) → Type 0
 Answered mx my mz drives calls (Ok ran) =
     Exact (mx drives.first) (my drives.second) (mz drives.third) calls (map said_by (vec_items ran.replies))
