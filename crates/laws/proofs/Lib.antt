@@ -18,3 +18,6 @@ pub mod Shifts
 pub mod Brakes
 pub mod Stops
 pub mod Shown
+pub mod Zeroing
+pub mod TickZeroes
+pub mod Reckoning
