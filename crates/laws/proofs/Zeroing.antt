@@ -78,7 +78,7 @@ module _ (o : Order) (m : Meaning) (d : RawData) (w : Work) where
   resume_zero (between c) = (refl, refl)
 
   -- one that goes on or begins
-  program_zero : (b : Bool)
+  pub program_zero : (b : Bool)
       → SameZero w (carried_out o.mode (cond b (resume_plan d m w.phase w.zero) (Begin o.byte)) m (Some d) w)
   program_zero true = resume_zero w.phase
   program_zero false = (refl, refl)
