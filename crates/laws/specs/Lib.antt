@@ -1,4 +1,5 @@
 pub mod Acts
 pub mod Kept
 pub mod Laws
+pub mod Reckoned
 pub mod Shows
