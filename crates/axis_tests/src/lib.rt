@@ -1,0 +1,76 @@
+// Runs of calls on one axis with the answers that the rules give them, and what the axis then shows.
+#![tactic(auto)]
+
+#[cfg(test)]
+mod bench;
+#[cfg(test)]
+mod tables;
+
+#[cfg(test)]
+mod tests {
+    use crate::bench::Act::{Halt, Order, Ticks, To};
+    use crate::bench::Answer::Done;
+    use crate::bench::{Bench, run};
+    use crate::tables::*;
+    use drives::clock_stage::FARTHEST;
+    use states::Command::{Backward, Forward, Start, Stop, TakeOver};
+    use std::test::Fail;
+
+    // Every mode and command to a new axis, to one in motion and to one that brakes.
+    #[test]
+    fn modes_and_commands(rt: HostRuntime) -> Result<(), Fail> {
+        let mut new = Bench::new(rt.alloc(), 0)?;
+        let mut busy = Bench::new(rt.alloc(), 0)?;
+        for act in [AXIS, READY, REFERENCE] {
+            busy.act(&rt, (0, 0), act, Done)?;
+        }
+        for mode in 0..=u8::MAX {
+            let commands = [Start, Stop, Forward, Backward, TakeOver];
+            for (k, command) in commands.iter().enumerate() {
+                let (at, act) = ((mode.into(), k), Order(mode, *command, 0, 0));
+                let (first, moving, braking) = answers(mode, *command);
+                new.act(&rt, at, act, first)?;
+                busy.act(&rt, at, To(100), Done)?;
+                busy.act(&rt, at, act, moving)?;
+                if moving == braking {
+                    busy.act(&rt, at, Halt(6), Done)?;
+                }
+                busy.act(&rt, at, act, braking)?;
+                busy.act(&rt, at, Ticks(1), Done)?;
+            }
+        }
+        Ok(())
+    }
+
+    #[test]
+    fn questions(rt: HostRuntime) -> Result<(), Fail> {
+        run(&rt, Bench::new(rt.alloc(), 500)?, &[ASKED])?;
+        run(&rt, Bench::new(rt.alloc(), 500)?, &[HOME, SHIFTS])?;
+        run(&rt, Bench::new(rt.alloc(), 500)?, &[HOME, BUSY])?;
+        run(&rt, Bench::new(rt.alloc(), FARTHEST - 5)?, &[NEAR_END])?;
+        run(&rt, Bench::new(rt.alloc(), -FARTHEST)?, &[AT_LEAST])
+    }
+
+    #[test]
+    fn moves(rt: HostRuntime) -> Result<(), Fail> {
+        run(&rt, Bench::new(rt.alloc(), 500)?, &[HOME, WORKED])?;
+        run(&rt, Bench::new(rt.alloc(), 500)?, &[HOME, STOPPED])?;
+        run(&rt, Bench::new(rt.alloc(), 500)?, &[HOME, BY_FIVE])
+    }
+
+    #[test]
+    fn programs(rt: HostRuntime) -> Result<(), Fail> {
+        run(&rt, Bench::new(rt.alloc(), 500)?, &[HOME, PROGRAMS])
+    }
+
+    #[test]
+    fn faults_of_ticks(rt: HostRuntime) -> Result<(), Fail> {
+        let bench = Bench::new(rt.alloc(), 500)?;
+        run(&rt, bench, &[HOME, TROUBLE, TROUBLE_IN_PROGRAM])
+    }
+
+    #[test]
+    fn machine_data(rt: HostRuntime) -> Result<(), Fail> {
+        run(&rt, Bench::new(rt.alloc(), 500)?, &[DATA])
+    }
+}
