@@ -1,1 +1,4 @@
 pub mod Longer
+pub mod Axes
+pub mod Heards
+pub mod Standing
