@@ -2,3 +2,4 @@ pub mod Longer
 pub mod Axes
 pub mod Heards
 pub mod Standing
+pub mod Promised
