@@ -1,6 +1,7 @@
 ghost use Rattle.std.specs.Prelude.{◌≡◌};
 ghost use Rattle.laws.specs.Acts.{new_axis};
 ghost use Rattle.laws.specs.Laws.{Invariant, NoPulseRefused, Stop, Braking, Shift};
+ghost use Rattle.laws.specs.Reckoned.{Data, Zero, Reference, DriftBound, Limits};
 
 use crate::Axis;
 use drives::drive::Drive;
@@ -16,6 +17,11 @@ impl<D: Drive> Axis<D> {
         ensures stop { Stop }
         ensures braking { Braking }
         ensures shift { Shift }
+        ensures machine_data { Data }
+        ensures zero { Zero }
+        ensures reference { Reference }
+        ensures drift_bound { DriftBound }
+        ensures limits { Limits }
     {
         drive.level(false);
         Axis {

@@ -14,6 +14,7 @@ use Rattle.ticks.specs.Ticks.{with_status}
 use Rattle.laws.specs.Acts.{levels_step, enter_axis, delete_axis}
 use Rattle.laws.specs.Kept.{KeptIn, OnWay, KeptWith, KeptBy, Kept}
 use Rattle.laws.proofs.Ranges.{unrefused}
+use Rattle.laws.proofs.Referencing.{no_program}
 
 -- an entry that is not refused has data that are not
 entry_yes : (b : Bool) (o : Option Cause) → cond b o (Some DataWhileBusy) ≡ None → o ≡ None
@@ -43,6 +44,7 @@ enter_by None d a e k = record {
   drive = k.drive;
   holds = entered_keeps d a.drive a.status.work (unrefused d (entry_yes (stands a.status.work.phase) (data_refusal d) e));
   shown = λ n. (refl, refl);
+  program = λ h. no_program h;
 }
 enter_by (Some c) d a e k = k
 
@@ -53,7 +55,7 @@ enter_keeps d a k = enter_by (enter_no d a.status) d a refl k
 -- a deletion, accepted or refused
 delete_by : (o : Option Cause) (a : AxisState) → Kept a
     → Kept (with_status (unless o a.status (with_data None (cleared a.status.work.zero a.status.work) a.status)) a)
-delete_by None a k = record { drive = k.drive; holds = (refl, refl); shown = λ n. (refl, refl) }
+delete_by None a k = record { drive = k.drive; holds = (refl, refl); shown = λ n. (refl, refl); program = λ h. no_program h }
 delete_by (Some c) a k = k
 
 -- deleting them
@@ -99,4 +101,5 @@ levels_keeps begin end ready a k = record {
   drive = record { floor = k.drive.floor; low = k.drive.low; high = k.drive.high; ceiling = k.drive.ceiling };
   holds = level_by a.status.machine a.drive a.status.work ready k.holds;
   shown = k.shown;
+  program = k.program;
 }

@@ -8,6 +8,7 @@ use Rattle.laws.specs.Kept.{Kept}
 use Rattle.laws.specs.Laws.{Invariant, NoPulseRefused}
 use Rattle.laws.proofs.Data.{enter_keeps, delete_keeps, levels_keeps}
 use Rattle.laws.proofs.Ordered.{order_keeps}
+use Rattle.laws.proofs.Referencing.{no_program}
 use Rattle.laws.proofs.OnTick.{tick_keeps, taken_in}
 
 -- each act keeps it
@@ -29,6 +30,7 @@ new_keeps m s = record {
   drive = record { floor = s.floor; low = s.low; high = s.high; ceiling = s.ceiling };
   holds = (refl, refl);
   shown = λ n. (refl, refl);
+  program = λ h. no_program h;
 }
 
 -- the invariant

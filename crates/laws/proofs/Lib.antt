@@ -17,4 +17,8 @@ pub mod TickShifts
 pub mod Shifts
 pub mod Brakes
 pub mod Stops
+pub mod Zeroing
+pub mod Referencing
+pub mod TickZeroes
+pub mod Reckoning
 pub mod Shown

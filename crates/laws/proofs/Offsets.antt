@@ -38,7 +38,7 @@ abbrev pub Same : Work → Work → Type 0
 Same w v = (v.offset ≡ w.offset) × (v.tool ≡ w.tool)
 
 -- a mode that only starts is not stopped
-not_both : {A : Type 0} (c : Command) → starts c ≡ true → stops c ≡ true → A
+pub not_both : {A : Type 0} (c : Command) → starts c ≡ true → stops c ≡ true → A
 not_both Start a b = absurd (false≢true b)
 not_both Stop a b = absurd (false≢true a)
 not_both Forward a b = absurd (false≢true a)

@@ -21,9 +21,10 @@ use Rattle.orders.specs.Effects.{carried_out}
 use Rattle.orders.specs.Orders.{order_fault, left}
 use Rattle.ticks.specs.Ticks.{with_status}
 use Rattle.laws.specs.Acts.{order_axis}
-use Rattle.laws.specs.Kept.{KeptIn, KeptWith, Quiet, Kept}
+use Rattle.laws.specs.Kept.{KeptIn, KeptWith, Quiet, Referenced, Kept}
 use Rattle.laws.proofs.NewMove.{attained}
 use Rattle.laws.proofs.Numbers.{program_mode}
+use Rattle.laws.proofs.Referencing.{accepted_referenced, refused_referenced}
 use Rattle.laws.proofs.Refusing.{Holds, refused_holds, halt_holds, clear_holds, mode_holds}
 use Rattle.laws.proofs.Plans.{zero_holds, offset_holds, tool_holds, go_holds, begin_holds, resume_holds, continue_holds}
 
@@ -115,11 +116,18 @@ order_by (Ok plan) o p a e k =
     let h = accepted_holds (mode_of o.mode) o p m s refl y.0 (k.holds, k.shown) in
     let c : Holds s.machine m (carried_out o.mode plan m s.machine s.work) =
     subst (λ (x : Plan). Holds s.machine m (carried_out o.mode x m s.machine s.work)) y.1 h in
-    record { drive = k.drive; holds = c.0; shown = c.1 }
+    let r = accepted_referenced (mode_of o.mode) o p m s y.0 k.program in
+    record {
+      drive = k.drive;
+      holds = c.0;
+      shown = c.1;
+      program = subst (λ (x : Plan). Referenced (carried_out o.mode x m s.machine s.work)) y.1 r;
+    }
 order_by (Err cause) o p a e k =
     let s = a.status in
-    let h = refused_holds (order_fault o s.work.phase cause) s.machine a.drive s.work (k.holds, k.shown) in
-    record { drive = k.drive; holds = h.0; shown = h.1 }
+    let f = order_fault o s.work.phase cause in
+    let h = refused_holds f s.machine a.drive s.work (k.holds, k.shown) in
+    record { drive = k.drive; holds = h.0; shown = h.1; program = refused_referenced f s.work k.program }
 
 -- every order
 pub order_keeps : (o : Order) (p : Programs) (a : AxisState) → Kept a → Kept (order_axis o p a)

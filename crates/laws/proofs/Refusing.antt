@@ -22,7 +22,7 @@ stopped_keeps (held c u) d m zero r k = k
 stopped_keeps (between c) d m zero r k = tt
 
 -- a stop keeps the program
-stopped_course : (p : Phase) → course_of (stopped p) ≡ course_of p
+pub stopped_course : (p : Phase) → course_of (stopped p) ≡ course_of p
 stopped_course standing = refl
 stopped_course (moving t) = refl
 stopped_course (braking t) = refl

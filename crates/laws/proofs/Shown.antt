@@ -1,5 +1,5 @@
 -- The rows of the feedback byte, computed.
-use Rattle.std.proofs.Common.{◌≡◌, ap, eqb, refl, arith, None}
+use Rattle.std.proofs.Common.{◌≡◌, refl, arith, None}
 use Rattle.motion.specs.Examples.{axis_a}
 use Rattle.motion.specs.Ramp.{after_first, ramp_of}
 use Rattle.motion.proofs.Curve.{past}

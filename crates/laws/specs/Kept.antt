@@ -1,5 +1,5 @@
 -- What every state that an axis can reach keeps.
-use Rattle.std.specs.Prelude.{◌≡◌, ℕ, ◌*◌, Bool, true, false, ◌||◌, ℤ, pos, negsuc, ◌+ℤ◌, ◌-ℤ◌, neg_ℤ, ◌≤ℤ◌, Some, None, Option, ◌==◌, unsigned_abs}
+use Rattle.std.specs.Prelude.{◌≡◌, ℕ, ◌*◌, Bool, true, false, ◌||◌, ℤ, pos, negsuc, ◌+ℤ◌, ◌-ℤ◌, neg_ℤ, ◌≤ℤ◌, is_some, Some, None, Option, ◌==◌, unsigned_abs}
 use Rattle.drives.specs.Meaning.{Meaning, Sound}
 use Rattle.motion.specs.declared.raw.RawData.{RawData}
 use Rattle.motion.specs.Data.{InRange, Agree}
@@ -70,7 +70,12 @@ KeptBy (Some d) m w = KeptWith d m w
 abbrev pub Quiet : Work → Type 0
 Quiet w = (w.mode == 8 || w.mode == 9) ≡ false → (w.auxiliary ≡ 2) × (course_of w.phase ≡ None)
 
+-- a program that runs or is held has a reference, so that 19 asked of a block always goes by the limits of the machine data
+abbrev pub Referenced : Work → Type 0
+Referenced w = is_some (course_of w.phase) ≡ true → w.referenced ≡ true
+
 pub record Kept (a : AxisState) : Type 0 where
   pub drive : Sound a.drive
   pub holds : KeptBy a.status.machine a.drive a.status.work
   pub shown : Quiet a.status.work
+  pub program : Referenced a.status.work

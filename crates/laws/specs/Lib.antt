@@ -1,5 +1,6 @@
 pub mod Acts
 pub mod Kept
 pub mod Laws
+pub mod Reckoned
 pub mod Shows
 pub mod Reckoned

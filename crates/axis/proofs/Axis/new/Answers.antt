@@ -1,6 +1,7 @@
 use Rattle.laws.proofs.Invariant.{invariant, no_pulse_refused}
 use Rattle.laws.proofs.Stops.{stop, braking_stands}
 use Rattle.laws.proofs.Shifts.{shift}
+use Rattle.laws.proofs.Reckoning.{data_law, zero_law, reference_law, drift_bound, limits}
 use Rattle.axis.proofs.Axis.new.Goals as goal
 
 pub returns-clause-invariant : goal.returns-clause-invariant
@@ -17,3 +18,18 @@ returns-clause-braking c _ = braking_stands
 
 pub returns-clause-shift : goal.returns-clause-shift
 returns-clause-shift c _ = shift
+
+pub returns-clause-machine_data : goal.returns-clause-machine_data
+returns-clause-machine_data c _ = data_law
+
+pub returns-clause-zero : goal.returns-clause-zero
+returns-clause-zero c _ = zero_law
+
+pub returns-clause-reference : goal.returns-clause-reference
+returns-clause-reference c _ = reference_law
+
+pub returns-clause-drift_bound : goal.returns-clause-drift_bound
+returns-clause-drift_bound c _ = drift_bound
+
+pub returns-clause-limits : goal.returns-clause-limits
+returns-clause-limits c _ = limits
