@@ -3,4 +3,3 @@ pub mod Kept
 pub mod Laws
 pub mod Reckoned
 pub mod Shows
-pub mod Reckoned
