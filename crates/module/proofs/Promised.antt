@@ -44,7 +44,10 @@ module _ (w : Which) (m : Meaning) (sound : Sound m) (s : Machine) (q : axis_at 
   reference_is = rw k (reference_same (number w) (events w s calls) (one.new_axis m) false)
 
   drift_holds : DriftBound w s calls hs
-  drift_holds d e = rw (end, zero_is) (drift_bound m sound (events w s calls) d (sym data_is ∙ e))
+  drift_holds d e =
+      let n = zero_said hs None (pos 0) in
+      subst (λ (a : AxisState). Near d.units d.pulses (a.drive.count -ℤ n) a.status.work.coordinate) (sym end)
+      (rw zero_is (drift_bound m sound (events w s calls) d (sym data_is ∙ e)))
 
   shift_holds : ShiftLaw w s calls hs
   shift_holds = rw (end, offset_is, tool_is) (shift m (events w s calls))
