@@ -1,5 +1,5 @@
 -- What a call makes of one axis of the machine, and what it is answered: the act of that axis, if it is one.
-use Rattle.std.proofs.Common.{◌≡◌, ℕ, Bool, true, false, cond, eqb, List, [], ◌∷◌, Some, None, Ok, Err, Option, Result, refl, sym, ap, ◌∙◌, subst, is_some}
+use Rattle.std.proofs.Common.{◌≡◌, ℕ, Bool, true, false, cond, eqb, List, [], ◌∷◌, Some, None, Option, refl, sym, ap, ◌∙◌, subst, is_some}
 use Rattle.std.proofs.lemmas.Bool.{eqb-true}
 use Rattle.store.specs.Programs.{Programs, found}
 use Rattle.store.specs.Entry.{deleted}
@@ -62,6 +62,7 @@ step_at w (DeleteProgram n) s =
 abbrev pub said : ℕ → one.Act → Programs → AxisState → Told
 said n act p a = at_axis n (done_or (one.act_reply act p a))
 
+-- t is what that act is told, if there is one
 abbrev pub IsTold : ℕ → Option one.Act → Told → Programs → AxisState → Type 0
 IsTold n None t p a = Unit {0}
 IsTold n (Some act) t p a = t ≡ said n act p a
@@ -105,14 +106,17 @@ reply_at w (DeleteProgram n) s = tt
 abbrev pub event : one.Act → Programs → one.Event
 event act p = record { act = act; programs = p }
 
+-- with the events that follow it
 abbrev pub one_more : Option one.Act → Programs → List one.Event → List one.Event
 one_more None p es = es
 one_more (Some act) p es = event act p ∷ es
 
+-- the events of an axis in a run of calls
 abbrev pub events : Which → Machine → List Call → List one.Event
 events w s [] = []
 events w s (c ∷ cs) = one_more (act_on w c) s.programs (events w (step c s) cs)
 
+-- one call leaves the axis as its event does, if it has one
 after_one : (o : Option one.Act) (p : Programs) (a : AxisState) (es : List one.Event)
     → one.after a (one_more o p es) ≡ one.after (left_by o p a) es
 after_one None p a es = refl

@@ -1,5 +1,5 @@
 -- After an accepted stop in a run of calls, the axis stands in time.
-use Rattle.std.proofs.Common.{◌≡◌, ℕ, ◌+◌, ◌≤◌, max, Bool, true, List, [], ◌∷◌, ◌++◌, Some, None, Ok, Err, Option, Result, refl, sym, ap, ◌∙◌, subst, arith}
+use Rattle.std.proofs.Common.{◌≡◌, ℕ, ◌+◌, ◌≤◌, max, true, List, [], ◌∷◌, ◌++◌, Some, None, Ok, Err, Option, Result, refl, sym, ap, ◌∙◌, subst, arith}
 use Rattle.drives.specs.Meaning.{Meaning, Sound}
 use Rattle.store.specs.Programs.{Programs}
 use Rattle.states.specs.declared.fault.AxisFault.{AxisFault}
@@ -12,12 +12,12 @@ use Rattle.module.specs.declared.call.Act.TheVariants as act
 use Rattle.module.specs.declared.call.Call.{Call}
 use Rattle.module.specs.declared.call.Call.TheVariants.{OnAxis}
 use Rattle.module.specs.State.{Machine}
-use Rattle.module.specs.Machine.{Told, done, done_or, at_axis, step, reply, after}
+use Rattle.module.specs.Machine.{done, done_or, at_axis, step, reply, after}
 use Rattle.module.specs.Heard.{Which, first, second, third, number, axis_at, act_on, is_tick, ticks_of}
 use Rattle.module.specs.Promise.{StandsWithin, StopLaw}
-use Rattle.module.proofs.Axes.{left_by, step_at, IsTold, reply_at, event, one_more, events, after_at}
+use Rattle.module.proofs.Axes.{left_by, step_at, IsTold, reply_at, one_more, events, after_at}
 
--- ticks of one call
+-- a call is a tick of the axis if its event is one
 ticks_one : (o : Option one.Act) (p : Programs) (es : List one.Event) → is_tick o + one.ticks es ≡ one.ticks (one_more o p es)
 ticks_one None p es = omega arith
 ticks_one (Some act) p es = refl
@@ -33,7 +33,7 @@ ticks_same w (c ∷ cs) s =
 abbrev Front : Which → Machine → List Call → List one.Event → Type 0
 Front w s cs soon = (ds : List Call) × (rest : List Call) × (cs ≡ ds ++ rest) × (events w s ds ≡ soon)
 
--- by the act of the first call
+-- one call in front: its event is the first one, or it has none
 front_one : (o : Option one.Act) (w : Which) (c : Call) (cs : List Call) (s : Machine) (e : one.Event) (soon rest : List one.Event)
     → act_on w c ≡ o → one_more o s.programs (events w (step c s) cs) ≡ e ∷ (soon ++ rest)
     → ((es : List one.Event) → events w (step c s) cs ≡ es ++ rest → Front w (step c s) cs es)
@@ -83,21 +83,21 @@ accepted : (n : ℕ) (r : Result (Unit {0}) AxisFault) → at_axis n (done_or r)
 accepted n (Ok u) e = refl
 accepted n (Err f) e = cc
 
--- the law of a stop, from a machine with a new axis
-pub stop_law : (w : Which) (m : Meaning) → Sound m → (s : Machine) → axis_at w s ≡ one.new_axis m → (calls : List Call) → StopLaw w s calls
+-- the law of a stop, from a machine in which the axis is new
+pub stop_law : (w : Which) (m : Meaning) → Sound m → (s : Machine) → axis_at w s ≡ one.new_axis m → (calls : List Call)
+    → StopLaw w s calls
 stop_law w m sound s q calls before later o split c e h =
     let call = OnAxis (number w) (act.Order o) in
     let t = after s before in
     let a = axis_at w t in
     let p = t.programs in
-    let es = events w s before in
     let n = max (step_of a) 1 in
-    let told = subst (λ (x : Option one.Act). IsTold (number w) x (reply call t) p a) (order_on w o) (reply_at w call t) in
-    let b = step_at w call t ∙ ap (λ (x : Option one.Act). left_by x p a) (order_on w o) in
-    let f =
-        stop m sound es (events w (step call t) later) o p a
-        (after_at w before s ∙ ap (λ (x : AxisState). one.after x es) q) c
-        (accepted (number w) (one.act_reply (one.ordering o) p a) (sym told ∙ e))
-        (subst (λ (k : ℕ). n ≤ k) (ticks_same w later (step call t)) h) in
-    front_stands w n (step call t) later f.0 f.1 f.2 f.3
-    (ap (λ (x : AxisState). stands_in (one.after x f.0)) b ∙ f.4) h
+    let is = order_on w o in
+    let told = subst (λ (x : Option one.Act). IsTold (number w) x (reply call t) p a) is (reply_at w call t) in
+    let yes = accepted (number w) (one.act_reply (one.ordering o) p a) (sym told ∙ e) in
+    let stopped = step_at w call t ∙ ap (λ (x : Option one.Act). left_by x p a) is in
+    let from = after_at w before s ∙ ap (λ (x : AxisState). one.after x (events w s before)) q in
+    let enough = subst (λ (k : ℕ). n ≤ k) (ticks_same w later (step call t)) h in
+    let f = stop m sound (events w s before) (events w (step call t) later) o p a from c yes enough in
+    let z = ap (λ (x : AxisState). stands_in (one.after x f.0)) stopped ∙ f.4 in
+    front_stands w n (step call t) later f.0 f.1 f.2 f.3 z h
