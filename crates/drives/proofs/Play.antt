@@ -35,7 +35,7 @@ gone_by_one b d f n = grind (arith, ints)
 layer_goes : (b : ℕ) (d f : Direction) (m : Meaning) → Sound m → fits b f m ≡ true → answered d (layer b f m) ≡ Ok tt → layer b d (at (reached d (passed b d f) m) m) ≡ pulsed d (layer b f m)
 layer_goes b d f m s h r = grind (arith, room_again b d f m s h r, all_gone b d f m s h r, gone_by_one b d f m.count)
 
--- what the layer and the drive below owe, with x the drive below after the pulses that were passed on
+-- what is to be shown of the layer and the drive below, with x the drive below after the pulses that were passed on
 pub record Owed (b : ℕ) (d f : Direction) (m : Meaning) (r : Result (Unit {0}) Refusal) (x : Meaning) : Type 0 where
   pub room_for_play : fits b d x ≡ true
   pub value : r ≡ answered d (layer b f m)

@@ -10,7 +10,7 @@ use Rattle.motion.specs.View.{mover_data, Movers}
 use Rattle.motion.proofs.Rising.{at_least_one, ramp_rises}
 
 module _ (f : Ramp) where
-  -- the chosen step is paid for
+  -- what is left suffices for the chosen step
   pub chosen-way : (g : Going) → way f g.rate (chosen f g) ≤ g.left
   chosen-way g =
       cond_both (fits f g (g.step + 1)) (g.step + 1) _ (λ (k : ℕ). way f g.rate k ≤ g.left)

@@ -3,19 +3,11 @@ use Rattle.std.specs.Prelude.{ℕ, cond, Ok, Err, Result, ◌==◌}
 use Rattle.drives.specs.declared.fault.Refusal.{Refusal}
 use Rattle.drives.specs.Meaning.{Meaning, levelled}
 use Rattle.drives.specs.Sending.{sent, told}
-use Rattle.drives.specs.Stage.{stage_of}
-use Rattle.drives.specs.TakeUp.{layered}
-use Rattle.rail.specs.declared.axis.Axis.{Axis}
-use Rattle.rail.specs.declared.bench.Bench.{Bench}
 use Rattle.rail.specs.declared.bench.CallFault.{CallFault}
 use Rattle.rail.specs.declared.bench.CallFault.TheVariants.{Refused, NoSuchAxis}
 use Rattle.rail.specs.declared.script.Call.{Call}
 use Rattle.rail.specs.declared.script.Ask.{Ask}
 use Rattle.rail.specs.declared.script.Ask.TheVariants.{Level, Pulses}
-
--- what the drive of an axis means
-abbrev pub axis_means : Axis → Meaning
-axis_means a = layered (layered stage_of) a.drive
 
 -- what an axis that is asked so makes of its drive, and what it answers
 abbrev pub called : Ask → Meaning → Meaning
@@ -30,9 +22,6 @@ pub record Three : Type 0 where
   pub first : Meaning
   pub second : Meaning
   pub third : Meaning
-
-abbrev pub three_of : Bench → Three
-three_of b = record { first = axis_means b.first; second = axis_means b.second; third = axis_means b.third }
 
 abbrev at_axis : ℕ → Call → Meaning → Meaning
 at_axis k c m = cond (c.axis == k) (called c.ask m) m

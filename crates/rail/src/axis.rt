@@ -1,5 +1,5 @@
 ghost use Rattle.std.specs.Prelude.{◌≡◌};
-ghost use Rattle.rail.specs.Bench.{axis_means, called, answers};
+ghost use Rattle.rail.specs.Bench.{called, answers};
 
 use crate::script::Ask;
 use drives::clock_stage::ClockStage;
@@ -8,6 +8,7 @@ use drives::fault::{DriveFault, Refusal};
 use drives::send::send;
 use drives::take_up::{Counts, TakeUp};
 use std::fmt;
+use std::marker::Model;
 
 /// How a script says that a drive is built; the outer layer comes first.
 // A case for each number of layers, since each has other counts to show.
@@ -21,11 +22,21 @@ pub enum Build {
 // A layer of no play means what the drive below means, so one type serves every build.
 type Layers = TakeUp<TakeUp<ClockStage>>;
 
-/// One axis of the rail: its drive, and how it was built.
+/// One axis of the rail: its drive, and how it was built. Contracts see what the drive means.
 #[derive(Drop)]
 pub struct Axis {
     build: Build,
     drive: Layers,
+}
+
+impl Model for Axis {
+    ghost use Rattle.drives.specs.Meaning.{Meaning};
+    ghost use Rattle.drives.specs.Stage.{stage_of};
+    ghost use Rattle.drives.specs.TakeUp.{layered};
+
+    ghost Value = { Meaning };
+
+    ghost view = { λ a. layered (layered stage_of) a.drive };
 }
 
 impl Axis {
@@ -45,8 +56,8 @@ impl Axis {
 
     /// What is asked of this axis.
     pub fn call(&mut self, ask: Ask) -> Result<(), Refusal>
-        ensures value { result ≡ answers ask (axis_means self.old) }
-        ensures after { axis_means self.new ≡ called ask (axis_means self.old) }
+        ensures value { result ≡ answers ask self.old }
+        ensures after { self.new ≡ called ask self.old }
     {
         match ask {
             Ask::Level { ready } => {
@@ -62,7 +73,7 @@ impl Axis {
     }
 
     pub fn count(&self) -> i64
-        ensures { result ≡ (axis_means self.now).count }
+        ensures { result ≡ self.now.count }
     {
         self.drive.count()
     }

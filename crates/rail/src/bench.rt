@@ -1,12 +1,13 @@
 ghost use Rattle.std.specs.Prelude.{◌≡◌};
-ghost use Rattle.rail.specs.Bench.{three_of, called_on, answers_on};
+ghost use Rattle.rail.specs.Bench.{called_on, answers_on};
 ghost use Rattle.rail.specs.declared.bench.CallFault.TheVariants.{Refused};
 
 use crate::axis::{Axis, Build, Position};
 use crate::mistake::Mistake;
 use crate::script::Call;
 use drives::fault::{DriveFault, Refusal};
-use std::fmt;
+use std::marker::Model;
+use thiserror::Error;
 
 /// The drives that a script asks for; an axis without one has a stage at 0.
 #[derive(Clone, Copy, Default)]
@@ -33,10 +34,19 @@ fn make(build: Option<Build>) -> Result<Axis, DriveFault> {
 }
 
 /// Why a call on an axis is refused.
-#[derive(Clone, Copy, PartialEq, Eq, Debug)]
+#[derive(Clone, Copy, PartialEq, Eq, Debug, Error)]
 pub enum CallFault {
+    #[error("refused {words}", words = in_words(.0))]
     Refused(Refusal),
+    #[error("fault 1 axis axis {0} program 0 block 0")]
     NoSuchAxis(u8),
+}
+
+fn in_words(refusal: &Refusal) -> &'static str {
+    match refusal {
+        Refusal::NotReady => "not ready",
+        Refusal::Ended => "ended",
+    }
 }
 
 impl From<Refusal> for CallFault {
@@ -47,16 +57,6 @@ impl From<Refusal> for CallFault {
     }
 }
 
-impl fmt::Display for CallFault {
-    fn fmt<W: fmt::Write>(&self, f: &mut fmt::Formatter<W>) -> fmt::Result {
-        match self {
-            CallFault::Refused(Refusal::NotReady) => f.write_str("refused not ready"),
-            CallFault::Refused(Refusal::Ended) => f.write_str("refused ended"),
-            CallFault::NoSuchAxis(axis) => write!(f, "fault 1 axis axis {axis} program 0 block 0"),
-        }
-    }
-}
-
 /// The three axes of the rail.
 // Fields and no array: the contract of a call names each of the three.
 #[derive(Drop)]
@@ -64,6 +64,14 @@ pub struct Bench {
     first: Axis,
     second: Axis,
     third: Axis,
+}
+
+impl Model for Bench {
+    ghost use Rattle.rail.specs.Bench.{Three};
+
+    ghost Value = { Three };
+
+    ghost view = { λ b. record { first = b.first; second = b.second; third = b.third } };
 }
 
 impl Bench {
@@ -77,8 +85,8 @@ impl Bench {
     }
 
     pub fn call(&mut self, call: Call) -> Result<(), CallFault>
-        ensures value { result ≡ answers_on call (three_of self.old) }
-        ensures after { three_of self.new ≡ called_on call (three_of self.old) }
+        ensures value { result ≡ answers_on call self.old }
+        ensures after { self.new ≡ called_on call self.old }
     {
         match call.axis {
             1 => self.first.call(call.ask)?,
@@ -90,7 +98,7 @@ impl Bench {
     }
 
     pub fn counts(&self) -> (i64, i64, i64)
-        ensures { result ≡ ((three_of self.now).first.count, (three_of self.now).second.count, (three_of self.now).third.count) }
+        ensures { result ≡ (self.now.first.count, self.now.second.count, self.now.third.count) }
     {
         (self.first.count(), self.second.count(), self.third.count())
     }

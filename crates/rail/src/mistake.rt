@@ -17,6 +17,7 @@ pub enum Field {
     Number,
 }
 
+// By hand: a word that is wanted is no error, and `thiserror` derives for errors alone.
 impl fmt::Display for Field {
     fn fmt<W: fmt::Write>(&self, f: &mut fmt::Formatter<W>) -> fmt::Result {
         f.write_str(match self {

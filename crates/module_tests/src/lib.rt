@@ -1,0 +1,199 @@
+// Every number that a call of the cable can answer, in one list of calls on a new module.
+#![tactic(auto)]
+
+#[cfg(test)]
+mod tests {
+    use axis::Levels;
+    use drives::clock_stage::ClockStage;
+    use module::{Act, Answer, Call, Drives, Fault, Module};
+    use motion::RawData;
+    use states::{Command, Order, Switches};
+    use std::test::Fail;
+    use units::Measure;
+
+    // What is asked, in fewer words than a call.
+    #[derive(Clone, Copy)]
+    enum Ask {
+        Data(u8, Data),
+        NoData(u8),
+        Order(u8, u8, Command, u8, u16, i32),
+        Levels(u8, bool, bool),
+        Tick(u8),
+        Observe(u8),
+        Open(u8, Measure),
+        Add(u8, &'static [u8]),
+        Close(u8),
+        Abandon(u8),
+        Delete(u8),
+    }
+
+    #[derive(Clone, Copy)]
+    enum Data {
+        Good,
+        OutOfRange,
+        Disagreeing,
+    }
+
+    use Ask::{Abandon, Add, Close, Delete, Levels as Level, NoData, Observe, Open, Tick};
+    use Command::{Forward, Start, Stop, TakeOver};
+
+    const LONG: &[u8] =
+        b"(2345678901234567890123456789012345678901234567890123456789012345678901234567890)";
+
+    // The machine data of the worked examples, or such as 4 and 5 refuse.
+    fn raw(data: Data) -> RawData {
+        let (patterns, reference) = match data {
+            Data::Good => (4, 0),
+            Data::OutOfRange => (3, 0),
+            Data::Disagreeing => (4, 200_001),
+        };
+        RawData {
+            fm: 3_000_000,
+            fs: 1_000_000,
+            increase: 1_000_000,
+            duration: 5,
+            patterns,
+            units: 4_000,
+            pulses: 400,
+            low: -1_000,
+            high: 200_000,
+            reference,
+            offsets: [0, 0, 0, 0],
+            measure: Measure::Millimetre,
+        }
+    }
+
+    fn levels(end: bool, ready: bool) -> Levels {
+        Levels {
+            switches: Switches { begin: false, end },
+            ready,
+        }
+    }
+
+    fn call_of(ask: Ask) -> Call<'static> {
+        let (axis, act) = match ask {
+            Ask::Data(axis, data) => (axis, Act::Enter(raw(data))),
+            Ask::NoData(axis) => (axis, Act::Delete),
+            Ask::Order(axis, mode, command, byte, word, double) => {
+                let order = Order {
+                    mode,
+                    command,
+                    byte,
+                    word,
+                    double,
+                };
+                (axis, Act::Order(order))
+            }
+            Ask::Levels(axis, end, ready) => (axis, Act::Level(levels(end, ready))),
+            Ask::Tick(axis) => (axis, Act::Tick),
+            Ask::Observe(axis) => (axis, Act::Observe),
+            Ask::Open(number, measure) => return Call::Open { number, measure },
+            Ask::Add(number, line) => return Call::Add { number, line },
+            Ask::Close(number) => return Call::Close { number },
+            Ask::Abandon(number) => return Call::Abandon { number },
+            Ask::Delete(number) => return Call::DeleteProgram { number },
+        };
+        Call::OnAxis { axis, act }
+    }
+
+    fn number_of(reply: Result<Answer, Fault>) -> Option<u8> {
+        reply.err().map(|fault| fault.number())
+    }
+
+    const CALLS: [(Ask, Option<u8>); 66] = [
+        (Tick(4), Some(1)),
+        (Observe(0), Some(1)),
+        (Observe(1), None),
+        (NoData(1), Some(7)),
+        (Ask::Data(1, Data::OutOfRange), Some(4)),
+        (Ask::Data(1, Data::Disagreeing), Some(5)),
+        (Ask::Data(1, Data::Good), None),
+        (Ask::Order(1, 3, Start, 0, 0, 0), Some(8)),
+        (Ask::Order(1, 4, Forward, 0, 0, 0), Some(9)),
+        (Ask::Order(1, 6, Start, 0, 1_800, 100), Some(12)),
+        (Ask::Order(1, 5, Start, 0, 0, 0), None),
+        (Ask::Order(1, 6, Start, 0, 0, 100), Some(13)),
+        (Ask::Order(1, 6, Start, 0, 65_000, 100), Some(18)),
+        (Ask::Order(1, 6, Start, 0, 1_800, 200_001), Some(19)),
+        (Ask::Order(1, 6, Start, 0, 1_800, 200_000), Some(21)),
+        (Level(1, false, true), None),
+        (Ask::Order(1, 6, Start, 0, 1_800, 100), None),
+        (Ask::Data(1, Data::Good), Some(3)),
+        (Ask::Order(1, 6, Start, 0, 1_800, 50), Some(11)),
+        (Ask::Order(1, 6, Stop, 0, 0, 0), Some(10)),
+        (Tick(1), None),
+        (Ask::Order(1, 12, Start, 0, 0, 1), None),
+        (Ask::Order(1, 13, Start, 0, 0, 40_000_000), Some(22)),
+        (Ask::Order(1, 12, Start, 0, 0, 0), None),
+        (Ask::Order(1, 8, Start, 7, 0, 0), Some(14)),
+        (Ask::Order(1, 8, TakeOver, 7, 0, 0), Some(16)),
+        (Ask::Order(1, 6, Start, 0, 1_800, 100), None),
+        (Level(1, true, true), None),
+        (Tick(1), Some(23)),
+        (Level(1, false, true), None),
+        (Ask::Order(1, 5, Start, 0, 0, 0), None),
+        (Ask::Order(1, 6, Start, 0, 1_800, 100), None),
+        (Level(1, false, false), None),
+        (Tick(1), Some(24)),
+        (Level(1, false, true), None),
+        (Ask::Order(1, 5, Start, 0, 0, 0), None),
+        (Ask::Data(2, Data::Good), None),
+        (Level(2, false, true), None),
+        (Ask::Order(2, 5, Start, 0, 0, 0), None),
+        (Ask::Order(2, 6, Start, 0, 1_800, 100), None),
+        (Tick(2), None),
+        (Ask::Order(2, 6, Stop, 0, 0, 0), None),
+        (Tick(2), None),
+        (Ask::Order(2, 6, Start, 0, 1_800, 110), Some(20)),
+        (Open(0, Measure::Millimetre), Some(26)),
+        (Open(7, Measure::Inch), None),
+        (Open(8, Measure::Inch), Some(29)),
+        (Add(8, b"X1"), Some(30)),
+        (Add(7, LONG), Some(31)),
+        (Add(7, b"Y1"), Some(32)),
+        (Add(7, b"X1 X2"), Some(33)),
+        (Add(7, b"F0"), Some(34)),
+        (Close(7), Some(35)),
+        (Abandon(7), Some(30)),
+        (Open(7, Measure::Inch), None),
+        (Add(7, b"X1 M30"), None),
+        (Close(7), None),
+        (Open(7, Measure::Inch), Some(27)),
+        (Ask::Order(1, 8, Start, 7, 0, 0), Some(15)),
+        (Open(9, Measure::Millimetre), None),
+        (Add(9, b"X1 M30"), None),
+        (Close(9), None),
+        (Ask::Order(1, 8, Start, 9, 0, 0), None),
+        (Delete(9), Some(36)),
+        (Delete(7), None),
+        (Delete(7), Some(14)),
+    ];
+
+    // 17 is reached by no list, and 2 belongs to making a drive.
+    #[test]
+    fn every_number(rt: HostRuntime) -> Result<(), Fail> {
+        let drives = Drives {
+            first: ClockStage::new(0)?,
+            second: ClockStage::new(999_999_999_990)?,
+            third: ClockStage::new(0)?,
+        };
+        let mut module = Module::new(rt.alloc(), drives).map_err(|refused| refused.error)?;
+        for (ask, number) in &CALLS {
+            assert_eq!(rt; number_of(module.call(call_of(*ask))), *number);
+        }
+        // Sixteen programs are stored; there is room for no other.
+        for number in 10u8..25 {
+            assert_eq!(rt;
+                number_of(module.call(call_of(Open(number, Measure::Inch)))),
+                None
+            );
+            assert_eq!(rt; number_of(module.call(call_of(Add(number, b"M02")))), None);
+            assert_eq!(rt; number_of(module.call(call_of(Close(number)))), None);
+        }
+        assert_eq!(rt;
+            number_of(module.call(call_of(Open(25, Measure::Inch)))),
+            Some(28)
+        );
+        Ok(())
+    }
+}
