@@ -1,1 +1,5 @@
 pub mod Longer
+pub mod Axes
+pub mod Heards
+pub mod Standing
+pub mod Promised

@@ -82,6 +82,6 @@ pub record Promise (x y z : Meaning) (calls : List Call) (told : List Told) (x�
 -- a run keeps the promise; without memory the drives come back as they were
 abbrev pub Answered : {X Y Z : Type 0} → (X → Meaning) → (Y → Meaning) → (Z → Meaning) → Drives X Y Z → List Call → Result (Ran X Y Z) (NotMade X Y Z) → Type 0
 Answered mx my mz drives calls (Ok ran) =
-    Exact (mx drives.first) (my drives.second) (mz drives.third) calls (map said_by (vec_items ran.replies))
+    Promise (mx drives.first) (my drives.second) (mz drives.third) calls (map said_by (vec_items ran.replies))
     (mx ran.drives.first) (my ran.drives.second) (mz ran.drives.third)
 Answered mx my mz drives calls (Err n) = n.drives ≡ drives

@@ -1,0 +1,103 @@
+-- After an accepted stop in a run of calls, the axis stands in time.
+use Rattle.std.proofs.Common.{◌≡◌, ℕ, ◌+◌, ◌≤◌, max, true, List, [], ◌∷◌, ◌++◌, Some, None, Ok, Err, Option, Result, refl, sym, ap, ◌∙◌, subst, arith}
+use Rattle.drives.specs.Meaning.{Meaning, Sound}
+use Rattle.store.specs.Programs.{Programs}
+use Rattle.states.specs.declared.fault.AxisFault.{AxisFault}
+use Rattle.states.specs.declared.order.Order.{Order}
+use Rattle.states.specs.State.{AxisState}
+use Rattle.laws.specs.Acts as one
+use Rattle.laws.specs.Laws.{step_of, stands_in}
+use Rattle.laws.proofs.Stops.{stop}
+use Rattle.module.specs.declared.call.Act.TheVariants as act
+use Rattle.module.specs.declared.call.Call.{Call}
+use Rattle.module.specs.declared.call.Call.TheVariants.{OnAxis}
+use Rattle.module.specs.State.{Machine}
+use Rattle.module.specs.Machine.{done, done_or, at_axis, step, reply, after}
+use Rattle.module.specs.Heard.{Which, first, second, third, number, axis_at, act_on, is_tick, ticks_of}
+use Rattle.module.specs.Promise.{StandsWithin, StopLaw}
+use Rattle.module.proofs.Axes.{left_by, step_at, IsTold, reply_at, one_more, events, after_at}
+
+-- a call is a tick of the axis if its event is one
+ticks_one : (o : Option one.Act) (p : Programs) (es : List one.Event) → is_tick o + one.ticks es ≡ one.ticks (one_more o p es)
+ticks_one None p es = omega arith
+ticks_one (Some act) p es = refl
+
+-- calls have as many ticks of an axis as its events
+ticks_same : (w : Which) (cs : List Call) (s : Machine) → ticks_of w cs ≡ one.ticks (events w s cs)
+ticks_same w [] s = refl
+ticks_same w (c ∷ cs) s =
+    ap (λ (n : ℕ). is_tick (act_on w c) + n) (ticks_same w cs (step c s))
+    ∙ ticks_one (act_on w c) s.programs (events w (step c s) cs)
+
+-- calls that begin with some whose events are these
+abbrev Front : Which → Machine → List Call → List one.Event → Type 0
+Front w s cs soon = (ds : List Call) × (rest : List Call) × (cs ≡ ds ++ rest) × (events w s ds ≡ soon)
+
+-- one call in front: its event is the first one, or it has none
+front_one : (o : Option one.Act) (w : Which) (c : Call) (cs : List Call) (s : Machine) (e : one.Event) (soon rest : List one.Event)
+    → act_on w c ≡ o → one_more o s.programs (events w (step c s) cs) ≡ e ∷ (soon ++ rest)
+    → ((es : List one.Event) → events w (step c s) cs ≡ es ++ rest → Front w (step c s) cs es)
+    → Front w s (c ∷ cs) (e ∷ soon)
+front_one None w c cs s e soon rest q h ih =
+    let f = ih (e ∷ soon) h in (
+      c ∷ f.0,
+      f.1,
+      ap (λ (ds : List Call). c ∷ ds) f.2,
+      ap (λ (o : Option one.Act). one_more o s.programs (events w (step c s) f.0)) q ∙ f.3,
+    )
+front_one (Some act) w c cs s e soon rest q h ih =
+    let f = ih soon (cc) in (
+      c ∷ f.0,
+      f.1,
+      ap (λ (ds : List Call). c ∷ ds) f.2,
+      ap (λ (o : Option one.Act). one_more o s.programs (events w (step c s) f.0)) q ∙ cc (f.3),
+    )
+
+-- a front of the events of calls is the events of a front of the calls
+front : (w : Which) (cs : List Call) (s : Machine) (soon rest : List one.Event) → events w s cs ≡ soon ++ rest → Front w s cs soon
+front w cs s [] rest h = ([], cs, refl, refl)
+front w [] s (e ∷ soon) rest h = cc
+front w (c ∷ cs) s (e ∷ soon) rest h =
+    front_one (act_on w c) w c cs s e soon rest refl h (λ (es : List one.Event). front w cs (step c s) es rest)
+
+-- so the axis stands within as many ticks of the calls
+front_stands : (w : Which) (n : ℕ) (s : Machine) (cs : List Call) (soon rest : List one.Event) → events w s cs ≡ soon ++ rest
+    → one.ticks soon ≤ n → stands_in (one.after (axis_at w s) soon) ≡ true → StandsWithin w n s cs
+front_stands w n s cs soon rest h t z k =
+    let f = front w cs s soon rest h in (
+      f.0,
+      f.1,
+      f.2,
+      subst (λ (i : ℕ). i ≤ n) (sym (ticks_same w f.0 s ∙ ap one.ticks f.3)) t,
+      ap stands_in (after_at w f.0 s ∙ ap (λ (es : List one.Event). one.after (axis_at w s) es) f.3) ∙ z,
+    )
+
+-- an order to an axis is its act
+order_on : (w : Which) (o : Order) → act_on w (OnAxis (number w) (act.Order o)) ≡ Some (one.ordering o)
+order_on first o = refl
+order_on second o = refl
+order_on third o = refl
+
+-- an act that is told done is accepted
+accepted : (n : ℕ) (r : Result (Unit {0}) AxisFault) → at_axis n (done_or r) ≡ done → r ≡ Ok tt
+accepted n (Ok u) e = refl
+accepted n (Err f) e = cc
+
+-- the law of a stop, from a machine in which the axis is new
+pub stop_law : (w : Which) (m : Meaning) → Sound m → (s : Machine) → axis_at w s ≡ one.new_axis m → (calls : List Call)
+    → StopLaw w s calls
+stop_law w m sound s q calls before later o split c e h =
+    let call = OnAxis (number w) (act.Order o) in
+    let t = after s before in
+    let a = axis_at w t in
+    let p = t.programs in
+    let n = max (step_of a) 1 in
+    let is = order_on w o in
+    let told = subst (λ (x : Option one.Act). IsTold (number w) x (reply call t) p a) is (reply_at w call t) in
+    let yes = accepted (number w) (one.act_reply (one.ordering o) p a) (sym told ∙ e) in
+    let stopped = step_at w call t ∙ ap (λ (x : Option one.Act). left_by x p a) is in
+    let from = after_at w before s ∙ ap (λ (x : AxisState). one.after x (events w s before)) q in
+    let enough = subst (λ (k : ℕ). n ≤ k) (ticks_same w later (step call t)) h in
+    let f = stop m sound (events w s before) (events w (step call t) later) o p a from c yes enough in
+    let z = ap (λ (x : AxisState). stands_in (one.after x f.0)) stopped ∙ f.4 in
+    front_stands w n (step call t) later f.0 f.1 f.2 f.3 z h
