@@ -3,3 +3,5 @@ pub mod Axes
 pub mod Heards
 pub mod Standing
 pub mod Promised
+pub mod Used
+pub mod Worked

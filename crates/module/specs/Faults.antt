@@ -1,5 +1,5 @@
 -- Which number, layer and place each fault has.
-use Rattle.std.specs.Prelude.{ℕ}
+use Rattle.std.specs.Prelude.{◌≡◌, ℕ, Bool, true, not, ◌&&◌, ◌==◌, nat_le}
 use Rattle.reader.specs.declared.fault.LineFault.{LineFault}
 use Rattle.states.specs.declared.fault.Layer.{Layer}
 use Rattle.states.specs.declared.fault.Layer.TheVariants as layer
@@ -19,6 +19,13 @@ number_of (NoSuchAxis axis program) = 1
 number_of (OfAxis axis fault) = cause_number fault.cause
 number_of (OfStore fault) = store.number_of fault
 number_of (InUse program) = 36
+
+-- the numbers that the rules use: 1 to 36 without 6 and 25
+abbrev pub is_used : ℕ → Bool
+is_used n = nat_le 1 n && nat_le n 36 && not (n == 6) && not (n == 25)
+
+abbrev pub UsedNumbers : Type 0
+UsedNumbers = (f : Fault) → is_used (number_of f) ≡ true
 
 abbrev pub store_layer : StoreFault → Layer
 store_layer (NotStored n) = layer.Store

@@ -4,3 +4,4 @@ pub mod Machine
 pub mod Made
 pub mod Heard
 pub mod Promise
+pub mod Examples

@@ -1,6 +1,6 @@
 ghost use Rattle.std.specs.Prelude.{◌≡◌};
 ghost use Rattle.module.specs.declared.fault.Fault.TheVariants.{OfStore};
-ghost use Rattle.module.specs.Faults.{number_of, layer_of, place_of};
+ghost use Rattle.module.specs.Faults.{number_of, UsedNumbers, layer_of, place_of};
 
 use states::{AxisFault, Layer};
 use store::StoreFault;
@@ -35,9 +35,10 @@ impl From<StoreFault> for Fault {
 }
 
 impl Fault {
-    /// The number of the question.
+    /// The number of the question; one that the rules use.
     pub fn number(self) -> u8
-        ensures { result ≡ number_of self }
+        ensures value { result ≡ number_of self }
+        ensures used { UsedNumbers }
     {
         match self {
             Fault::NoSuchAxis { .. } => 1,

@@ -1,3 +1,4 @@
+ghost use Rattle.module.specs.Examples.{WorkedExamples};
 ghost use Rattle.module.specs.Promise.{Answered};
 
 use crate::call::{Answer, Call};
@@ -20,7 +21,8 @@ pub fn run<X: Drive, Y: Drive, Z: Drive>(
     drives: Drives<X, Y, Z>,
     calls: &[Call],
 ) -> Result<Ran<X, Y, Z>, NotMade<X, Y, Z>>
-    ensures { Answered X.Drive.meaning Y.Drive.meaning Z.Drive.meaning drives calls.now result }
+    ensures promise { Answered X.Drive.meaning Y.Drive.meaning Z.Drive.meaning drives calls.now result }
+    ensures examples { WorkedExamples }
 {
     let mut replies = match Vec::with_capacity(heap, calls.len()) {
         Ok(replies) => replies,
