@@ -1,3 +1,4 @@
 pub mod Cuts
+pub mod Calls
 pub mod Bench
 pub mod Programs

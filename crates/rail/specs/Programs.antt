@@ -3,9 +3,9 @@ use Rattle.std.specs.Prelude.{ℕ, Result}
 use Rattle.store.specs.declared.fault.StoreFault.{StoreFault}
 use Rattle.store.specs.Programs.{Programs}
 use Rattle.store.specs.Entry.{open_done, opened, add_reply, added, close_reply, closed, abandon_reply, abandoned}
-use Rattle.rail.specs.declared.script.ProgramCall.{ProgramCall}
-use Rattle.rail.specs.declared.script.ProgramAsk.{ProgramAsk}
-use Rattle.rail.specs.declared.script.ProgramAsk.TheVariants.{Open, Add, Close, Abandon}
+use Rattle.rail.specs.declared.call.ProgramCall.{ProgramCall}
+use Rattle.rail.specs.declared.call.ProgramAsk.{ProgramAsk}
+use Rattle.rail.specs.declared.call.ProgramAsk.TheVariants.{Open, Add, Close, Abandon}
 
 abbrev pub told_to : ProgramAsk → ℕ → Programs → Result (Unit {0}) StoreFault
 told_to (Open measure) number s = open_done number s

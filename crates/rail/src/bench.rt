@@ -1,13 +1,15 @@
-ghost use Rattle.std.specs.Prelude.{◌≡◌};
-ghost use Rattle.rail.specs.Bench.{called_on, answers_on};
-ghost use Rattle.rail.specs.declared.bench.CallFault.TheVariants.{Refused};
+ghost use Rattle.std.specs.Prelude.{◌≡◌, option_map};
+ghost use Rattle.rail.specs.Bench.{three_of, axis_at, acted_on, answers_on, counted, seen, observed_on};
 
-use crate::axis::{Axis, Build, Position};
+use crate::build::Build;
+use crate::call::Act;
+use crate::fault::CallFault;
 use crate::mistake::Mistake;
-use crate::script::Call;
-use drives::fault::{DriveFault, Refusal};
-use std::marker::Model;
-use thiserror::Error;
+use crate::mounted::Mounted;
+use drives::fault::DriveFault;
+use states::Observation;
+use std::fmt;
+use store::Store;
 
 /// The drives that a script asks for; an axis without one has a stage at 0.
 #[derive(Clone, Copy, Default)]
@@ -29,86 +31,112 @@ impl Plan {
     }
 }
 
-fn make(build: Option<Build>) -> Result<Axis, DriveFault> {
-    Axis::new(build.unwrap_or(Build::Clock { count: 0 }))
-}
-
-/// Why a call on an axis is refused.
-#[derive(Clone, Copy, PartialEq, Eq, Debug, Error)]
-pub enum CallFault {
-    #[error("refused {words}", words = in_words(.0))]
-    Refused(Refusal),
-    #[error("fault 1 axis axis {0} program 0 block 0")]
-    NoSuchAxis(u8),
-}
-
-fn in_words(refusal: &Refusal) -> &'static str {
-    match refusal {
-        Refusal::NotReady => "not ready",
-        Refusal::Ended => "ended",
-    }
-}
-
-impl From<Refusal> for CallFault {
-    ghost from_gives = { λ e r. r ≡ Refused e };
-
-    fn from(e: Refusal) -> Self {
-        CallFault::Refused(e)
-    }
+fn mount(build: Option<Build>) -> Result<Mounted, DriveFault> {
+    Mounted::new(build.unwrap_or(Build::Clock { count: 0 }))
 }
 
 /// The three axes of the rail.
-// Fields and no array: the contract of a call names each of the three.
+// Fields and no array: the contract of an act names each of the three.
 #[derive(Drop)]
 pub struct Bench {
-    first: Axis,
-    second: Axis,
-    third: Axis,
-}
-
-impl Model for Bench {
-    ghost use Rattle.rail.specs.Bench.{Three};
-
-    ghost Value = { Three };
-
-    ghost view = { λ b. record { first = b.first; second = b.second; third = b.third } };
+    first: Mounted,
+    second: Mounted,
+    third: Mounted,
 }
 
 impl Bench {
     pub fn new(plan: Plan) -> Result<Bench, DriveFault> {
         let [first, second, third] = plan.builds;
         Ok(Bench {
-            first: make(first)?,
-            second: make(second)?,
-            third: make(third)?,
+            first: mount(first)?,
+            second: mount(second)?,
+            third: mount(third)?,
         })
     }
 
-    pub fn call(&mut self, call: Call) -> Result<(), CallFault>
-        ensures value { result ≡ answers_on call self.old }
-        ensures after { self.new ≡ called_on call self.old }
+    /// Acts on the axis of a number, with the programs in store.
+    pub fn act(&mut self, number: u8, store: &Store, act: Act) -> Result<(), CallFault>
+        ensures value { result ≡ answers_on number act store.now (three_of self.old) }
+        ensures after { three_of self.new ≡ acted_on number act store.now (three_of self.old) }
     {
-        match call.axis {
-            1 => self.first.call(call.ask)?,
-            2 => self.second.call(call.ask)?,
-            3 => self.third.call(call.ask)?,
-            axis => return Err(CallFault::NoSuchAxis(axis)),
+        let reply = match number {
+            1 => self.first.act(store, act),
+            2 => self.second.act(store, act),
+            3 => self.third.act(store, act),
+            _ => {
+                return Err(CallFault::NoSuchAxis {
+                    axis: number,
+                    program: act.program_named(),
+                });
+            }
+        };
+        reply.map_err(|fault| CallFault::OfAxis {
+            axis: number,
+            fault,
+        })
+    }
+
+    /// Makes up to so many ticks; the last one made is the first that answers a fault.
+    pub fn ticks(&mut self, number: u8, store: &Store, count: u32) -> Ticks
+        ensures { record { made = result.made; fault = result.fault; left = three_of self.new } ≡ counted count 0 number store.now (three_of self.old) }
+    {
+        for before in 0..count {
+            if let Err(fault) = self.act(number, store, Act::Tick) {
+                return Ticks {
+                    made: before + 1,
+                    fault: Some(fault),
+                };
+            }
         }
-        Ok(())
+        Ticks {
+            made: count,
+            fault: None,
+        }
+    }
+
+    pub fn observe(&self, number: u8) -> Result<Observation, CallFault>
+        ensures { seen result ≡ observed_on number (three_of self.now) }
+    {
+        match self.axis(number) {
+            Some(axis) => Ok(axis.observe()),
+            None => Err(CallFault::NoSuchAxis {
+                axis: number,
+                program: 0,
+            }),
+        }
     }
 
     pub fn counts(&self) -> (i64, i64, i64)
-        ensures { result ≡ (self.now.first.count, self.now.second.count, self.now.third.count) }
+        ensures { result ≡ ((three_of self.now).first.drive.count, (three_of self.now).second.drive.count, (three_of self.now).third.drive.count) }
     {
         (self.first.count(), self.second.count(), self.third.count())
     }
 
-    pub fn position(&self, axis: u8) -> Option<Position> {
-        match axis {
-            1 => Some(self.first.position()),
-            2 => Some(self.second.position()),
-            3 => Some(self.third.position()),
+    pub fn axis(&self, number: u8) -> Option<&Mounted>
+        ensures { option_map (λ axis. axis.now.axis) result ≡ axis_at number (three_of self.now) }
+    {
+        match number {
+            1 => Some(&self.first),
+            2 => Some(&self.second),
+            3 => Some(&self.third),
             _ => None,
+        }
+    }
+}
+
+/// How many ticks were made, and the fault of the last one.
+#[derive(Clone, Copy)]
+pub struct Ticks {
+    pub made: u32,
+    pub fault: Option<CallFault>,
+}
+
+impl fmt::Display for Ticks {
+    fn fmt<W: fmt::Write>(&self, f: &mut fmt::Formatter<W>) -> fmt::Result {
+        let made = self.made;
+        match self.fault {
+            None => write!(f, "{made} ticks ok"),
+            Some(fault) => write!(f, "{made} ticks {fault}"),
         }
     }
 }

@@ -4,10 +4,16 @@
 //! answer is followed by a line in plain words, and an account ends the run.
 #![tactic(auto)]
 
-mod axis;
 mod bench;
+mod build;
+mod call;
+mod explain;
+mod fault;
 mod mistake;
+mod mounted;
+mod observed;
 mod programs;
+mod rail;
 mod reading;
 mod replay;
 mod script;

@@ -8,8 +8,14 @@ pub enum Field {
     Begin,
     End,
     Ready,
-    Direction,
-    Pulses,
+    Mode,
+    Command,
+    Byte,
+    Word,
+    DoubleWord,
+    Ticks,
+    /// A machine datum, by its key.
+    Datum(&'static str),
     Play,
     StageCount,
     Stage,
@@ -20,19 +26,25 @@ pub enum Field {
 // By hand: a word that is wanted is no error, and `thiserror` derives for errors alone.
 impl fmt::Display for Field {
     fn fmt<W: fmt::Write>(&self, f: &mut fmt::Formatter<W>) -> fmt::Result {
-        f.write_str(match self {
+        let words = match self {
+            Field::Datum(key) => return write!(f, "{key}= and a value of its type"),
             Field::Axis => "AXIS, a number from 0 to 255",
             Field::Begin => "BEGIN, 0 or 1",
             Field::End => "END, 0 or 1",
             Field::Ready => "READY, 0 or 1",
-            Field::Direction => "a direction, forward or backward",
-            Field::Pulses => "COUNT, a number from 0 to 4294967295",
+            Field::Mode => "MODE, a number from 0 to 255",
+            Field::Command => "COMMAND: start, stop, forward, backward or take-over",
+            Field::Byte => "BYTE, a number from 0 to 255",
+            Field::Word => "WORD, a number from 0 to 65535",
+            Field::DoubleWord => "DOUBLEWORD, a signed number of 32 bits",
+            Field::Ticks => "COUNT, a number from 0 to 4294967295",
             Field::Play => "PLAY, a number from 0 to 65535",
             Field::StageCount => "COUNT, a signed number of 64 bits",
             Field::Stage => "clock or takeup",
             Field::Measure => "MEASURE: mm, inch or degree",
             Field::Number => "NUMBER, a number from 0 to 255",
-        })
+        };
+        f.write_str(words)
     }
 }
 

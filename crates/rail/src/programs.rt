@@ -1,7 +1,7 @@
 ghost use Rattle.std.specs.Prelude.{◌≡◌};
 ghost use Rattle.rail.specs.Programs.{asked_of, told_of};
 
-use crate::script::{ProgramAsk, ProgramCall};
+use crate::call::{ProgramAsk, ProgramCall};
 use std::fmt;
 use store::fault::Place;
 use store::{Store, StoreFault};

@@ -1,55 +1,11 @@
-use crate::axis::Build;
+use crate::build::Build;
+use crate::call::{Act, Ask, Call, Line, ProgramAsk, ProgramCall};
 use crate::mistake::{Field, Mistake};
 use crate::words::Words;
-use drives::direction::Direction;
+use axis::Levels;
+use motion::RawData;
+use states::{Command, Order, Switches};
 use units::Measure;
-
-/// One line of a script that says something.
-#[derive(Clone, Copy)]
-pub enum Line<'a> {
-    Drive { axis: u8, build: Build },
-    Call(Call),
-    /// A program line for the reader alone, in a program without blocks.
-    Read { measure: Measure, text: &'a [u8] },
-    Program(ProgramCall<'a>),
-}
-
-impl Line<'_> {
-    /// Whether the line is a call; `read` counts as one.
-    pub fn is_call(&self) -> bool {
-        !matches!(self, Line::Drive { .. })
-    }
-}
-
-/// A call on the program store: the number of the program or of its entry, and what is asked.
-#[derive(Clone, Copy)]
-pub struct ProgramCall<'a> {
-    pub number: u8,
-    pub ask: ProgramAsk<'a>,
-}
-
-/// What is asked of the program store.
-#[derive(Clone, Copy)]
-pub enum ProgramAsk<'a> {
-    Open { measure: Measure },
-    Add { text: &'a [u8] },
-    Close,
-    Abandon,
-}
-
-/// A call on an axis: any number, and what is asked of it.
-#[derive(Clone, Copy)]
-pub struct Call {
-    pub axis: u8,
-    pub ask: Ask,
-}
-
-/// What is asked of an axis.
-#[derive(Clone, Copy)]
-pub enum Ask {
-    Level { ready: bool },
-    Pulses { direction: Direction, pulses: u32 },
-}
 
 /// Reads a line of the script, its end left off: none where it is empty or a remark.
 pub fn read_line<'a>(line: &'a [u8]) -> Result<Option<Line<'a>>, Mistake> {
@@ -59,25 +15,22 @@ pub fn read_line<'a>(line: &'a [u8]) -> Result<Option<Line<'a>>, Mistake> {
     let mut words = Words::new(line);
     let read = match words.next() {
         Some(b"drive") => read_drive(&mut words)?,
-        Some(b"levels") => Line::Call(read_levels(&mut words)?),
-        Some(b"pulse") => Line::Call(read_pulse(&mut words)?),
-        Some(b"read") => {
-            let measure = read_measure(&mut words)?;
-            let text = words.take_text();
-            Line::Read { measure, text }
-        }
-        Some(b"open") => {
-            let number = words.number(Field::Number)?;
-            let measure = read_measure(&mut words)?;
-            program_line(number, ProgramAsk::Open { measure })
-        }
-        Some(b"add") => {
-            let number = words.number(Field::Number)?;
-            let text = words.take_text();
-            program_line(number, ProgramAsk::Add { text })
-        }
+        Some(b"data") => axis_line(words.number(Field::Axis)?, read_data(&mut words)?),
+        Some(b"nodata") => axis_line(words.number(Field::Axis)?, Ask::Act(Act::Delete)),
+        Some(b"order") => axis_line(words.number(Field::Axis)?, read_order(&mut words)?),
+        Some(b"levels") => axis_line(words.number(Field::Axis)?, read_levels(&mut words)?),
+        Some(b"tick") => axis_line(words.number(Field::Axis)?, read_ticks(&mut words)?),
+        Some(b"observe") => axis_line(words.number(Field::Axis)?, Ask::Observe),
+        Some(b"open") => program_line(words.number(Field::Number)?, read_open(&mut words)?),
+        Some(b"add") => program_line(
+            words.number(Field::Number)?,
+            ProgramAsk::Add {
+                text: words.take_text(),
+            },
+        ),
         Some(b"close") => program_line(words.number(Field::Number)?, ProgramAsk::Close),
         Some(b"abandon") => program_line(words.number(Field::Number)?, ProgramAsk::Abandon),
+        Some(b"read") => read_alone(&mut words)?,
         _ => return Err(Mistake::UnknownCall),
     };
     words.end()?;
@@ -119,42 +72,90 @@ fn read_layer(words: &mut Words) -> Result<Option<u16>, Mistake> {
     }
 }
 
-// The limit switches act on an axis, and not on its drive.
-fn read_levels(words: &mut Words) -> Result<Call, Mistake> {
-    let axis = words.number(Field::Axis)?;
-    let _begin = words.flag(Field::Begin)?;
-    let _end = words.flag(Field::End)?;
+// The keys of machine data in their order, the measure before them.
+const RATES: [&str; 7] = ["fm", "fs", "a", "duration", "patterns", "W", "P"];
+
+const PLACES: [&str; 7] = ["low", "high", "reference", "o1", "o2", "o3", "o4"];
+
+fn read_data(words: &mut Words) -> Result<Ask, Mistake> {
+    let measure = measure_in(words.datum("measure")?)?;
+    let [fm, fs, increase, duration, patterns, units, pulses] = words.data(RATES)?;
+    let [low, high, reference, o1, o2, o3, o4] = words.data(PLACES)?;
+    Ok(Ask::Act(Act::Enter(RawData {
+        fm,
+        fs,
+        increase,
+        duration,
+        patterns,
+        units,
+        pulses,
+        low,
+        high,
+        reference,
+        offsets: [o1, o2, o3, o4],
+        measure,
+    })))
+}
+
+fn read_order(words: &mut Words) -> Result<Ask, Mistake> {
+    Ok(Ask::Act(Act::Order(Order {
+        mode: words.number(Field::Mode)?,
+        command: read_command(words)?,
+        byte: words.number(Field::Byte)?,
+        word: words.number(Field::Word)?,
+        double: words.number(Field::DoubleWord)?,
+    })))
+}
+
+fn read_command(words: &mut Words) -> Result<Command, Mistake> {
+    match words.word(Field::Command)? {
+        b"start" => Ok(Command::Start),
+        b"stop" => Ok(Command::Stop),
+        b"forward" => Ok(Command::Forward),
+        b"backward" => Ok(Command::Backward),
+        b"take-over" => Ok(Command::TakeOver),
+        _ => Err(Mistake::Expected(Field::Command)),
+    }
+}
+
+fn read_levels(words: &mut Words) -> Result<Ask, Mistake> {
+    let switches = Switches {
+        begin: words.flag(Field::Begin)?,
+        end: words.flag(Field::End)?,
+    };
     let ready = words.flag(Field::Ready)?;
-    Ok(Call {
-        axis,
-        ask: Ask::Level { ready },
-    })
+    Ok(Ask::Act(Act::Level(Levels { switches, ready })))
 }
 
-fn read_pulse(words: &mut Words) -> Result<Call, Mistake> {
-    let axis = words.number(Field::Axis)?;
-    let direction = match words.word(Field::Direction)? {
-        b"forward" => Direction::Forward,
-        b"backward" => Direction::Backward,
-        _ => return Err(Mistake::Expected(Field::Direction)),
-    };
-    let pulses = match words.end() {
-        Ok(()) => 1,
-        Err(_) => words.number(Field::Pulses)?,
-    };
-    Ok(Call {
-        axis,
-        ask: Ask::Pulses { direction, pulses },
-    })
+fn read_ticks(words: &mut Words) -> Result<Ask, Mistake> {
+    match words.end() {
+        Ok(()) => Ok(Ask::Act(Act::Tick)),
+        Err(_) => Ok(Ask::Ticks(words.number(Field::Ticks)?)),
+    }
 }
 
-fn read_measure(words: &mut Words) -> Result<Measure, Mistake> {
-    match words.word(Field::Measure)? {
+fn read_open<'a>(words: &mut Words) -> Result<ProgramAsk<'a>, Mistake> {
+    let measure = measure_in(words.word(Field::Measure)?)?;
+    Ok(ProgramAsk::Open { measure })
+}
+
+fn read_alone<'a>(words: &mut Words<'a>) -> Result<Line<'a>, Mistake> {
+    let measure = measure_in(words.word(Field::Measure)?)?;
+    let text = words.take_text();
+    Ok(Line::Read { measure, text })
+}
+
+fn measure_in(word: &[u8]) -> Result<Measure, Mistake> {
+    match word {
         b"mm" => Ok(Measure::Millimetre),
         b"inch" => Ok(Measure::Inch),
         b"degree" => Ok(Measure::Degree),
         _ => Err(Mistake::Expected(Field::Measure)),
     }
+}
+
+fn axis_line<'a>(axis: u8, ask: Ask) -> Line<'a> {
+    Line::Call(Call { axis, ask })
 }
 
 fn program_line<'a>(number: u8, ask: ProgramAsk<'a>) -> Line<'a> {

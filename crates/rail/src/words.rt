@@ -49,9 +49,31 @@ impl<'a> Words<'a> {
     where
         N::Error: Drop,
     {
-        decimal(self.word(field)?)
-            .and_then(|number| N::try_from(number).ok())
-            .ok_or(Mistake::Expected(field))
+        number_in(self.word(field)?).ok_or(Mistake::Expected(field))
+    }
+
+    /// The value of a machine datum, whose key comes here.
+    pub fn datum(&mut self, key: &'static str) -> Result<&'a [u8], Mistake> {
+        let field = Field::Datum(key);
+        match cut(self.word(field)?, b'=') {
+            (name, Some(value)) if name == key.as_bytes() => Ok(value),
+            _ => Err(Mistake::Expected(field)),
+        }
+    }
+
+    /// Seven machine data of one type, under keys in this order.
+    pub fn data<N: TryFrom<i64> + Default + Copy>(
+        &mut self,
+        keys: [&'static str; 7],
+    ) -> Result<[N; 7], Mistake>
+    where
+        N::Error: Drop,
+    {
+        let mut values = [N::default(); 7];
+        for (value, key) in values.iter_mut().zip(keys) {
+            *value = number_in(self.datum(key)?).ok_or(Mistake::Expected(Field::Datum(key)))?;
+        }
+        Ok(values)
     }
 
     pub fn flag(&mut self, field: Field) -> Result<bool, Mistake> {
@@ -73,6 +95,13 @@ impl<'a> Words<'a> {
             None => Ok(()),
         }
     }
+}
+
+fn number_in<N: TryFrom<i64>>(word: &[u8]) -> Option<N>
+where
+    N::Error: Drop,
+{
+    decimal(word).and_then(|number| N::try_from(number).ok())
 }
 
 fn decimal(word: &[u8]) -> Option<i64> {
