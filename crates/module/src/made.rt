@@ -29,6 +29,25 @@ impl<X: Drive, Y: Drive, Z: Drive> Module<X, Y, Z> {
         })
     }
 
+    /// The first axis, to be looked at.
+    pub fn first(&self) -> &Axis<X>
+        ensures { result.now ≡ self.now.first }
+    {
+        &self.first
+    }
+
+    pub fn second(&self) -> &Axis<Y>
+        ensures { result.now ≡ self.now.second }
+    {
+        &self.second
+    }
+
+    pub fn third(&self) -> &Axis<Z>
+        ensures { result.now ≡ self.now.third }
+    {
+        &self.third
+    }
+
     /// Gives the drives back.
     pub fn into_drives(self) -> Drives<X, Y, Z>
         ensures first { X.Drive.meaning result.first ≡ self.first.drive }
