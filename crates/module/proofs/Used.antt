@@ -1,13 +1,9 @@
 -- Every fault has a number that the rules use.
 use Rattle.std.proofs.Common.{◌≡◌, true, refl}
-use Rattle.reader.specs.declared.fault.LineFault.TheVariants.{TooLong, ProgramFull, Form, Order as OrderOf, Range}
-use Rattle.drives.specs.declared.fault.DriveFault.{DriveFault}
-use Rattle.motion.specs.declared.fault.DataFault.{DataFault}
 use Rattle.states.specs.declared.fault.Cause.{Cause}
 use Rattle.states.specs.Faults.{cause_number}
 use Rattle.store.specs.declared.fault.StoreFault.{StoreFault}
 use Rattle.store.specs.Faults as store
-use Rattle.module.specs.declared.fault.Fault.{Fault}
 use Rattle.module.specs.declared.fault.Fault.TheVariants.{NoSuchAxis, OfAxis, OfStore, InUse}
 use Rattle.module.specs.Faults.{is_used, UsedNumbers}
 use Rattle.std.proofs.Common.{arith}

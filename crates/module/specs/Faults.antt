@@ -1,6 +1,5 @@
 -- Which number, layer and place each fault has.
 use Rattle.std.specs.Prelude.{◌≡◌, ℕ, Bool, true, not, ◌&&◌, ◌==◌, nat_le}
-use Rattle.reader.specs.declared.fault.LineFault.{LineFault}
 use Rattle.states.specs.declared.fault.Layer.{Layer}
 use Rattle.states.specs.declared.fault.Layer.TheVariants as layer
 use Rattle.states.specs.Faults.{cause_number, cause_layer}

@@ -1,7 +1,6 @@
 -- What one of the three axes was asked in a run, and what is reckoned from that alone.
 use Rattle.std.specs.Prelude.{ℕ, ◌+◌, Bool, true, false, cond, ◌||◌, List, [], ◌∷◌, ℤ, Some, None, Option, ◌==◌}
 use Rattle.motion.specs.declared.raw.RawData.{RawData}
-use Rattle.states.specs.Observation.{Shown}
 use Rattle.states.specs.State.{AxisState}
 use Rattle.laws.specs.Acts as one
 use Rattle.laws.specs.Laws.{offset_after, tool_after}
