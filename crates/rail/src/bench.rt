@@ -14,6 +14,7 @@ use std::fmt;
 #[derive(Drop)]
 pub struct Bench {
     module: Module<Layers, Layers, Layers>,
+    builds: [Build; 3],
     pub accounts: [Account; 3],
 }
 
@@ -23,14 +24,17 @@ impl Bench {
         builds: [Build; 3],
         drives: Drives<Layers, Layers, Layers>,
     ) -> Result<Bench, AllocError> {
-        let [first, second, third] = builds;
         let accounts = [
-            Account::new(1, first, &drives.first),
-            Account::new(2, second, &drives.second),
-            Account::new(3, third, &drives.third),
+            Account::new(1, drives.first.count()),
+            Account::new(2, drives.second.count()),
+            Account::new(3, drives.third.count()),
         ];
         match Module::new(heap, drives) {
-            Ok(module) => Ok(Bench { module, accounts }),
+            Ok(module) => Ok(Bench {
+                module,
+                builds,
+                accounts,
+            }),
             Err(not_made) => Err(not_made.error),
         }
     }
@@ -41,9 +45,10 @@ impl Bench {
         ensures after { self.new.module ≡ step call.entry self.old.module }
     {
         let reply = self.module.call(call);
-        self.accounts[0].note(self.module.first().drive(), reply);
-        self.accounts[1].note(self.module.second().drive(), reply);
-        self.accounts[2].note(self.module.third().drive(), reply);
+        let [first, second, third] = self.counts();
+        self.accounts[0].note(first, reply);
+        self.accounts[1].note(second, reply);
+        self.accounts[2].note(third, reply);
         reply
     }
 
@@ -71,9 +76,13 @@ impl Bench {
 
     /// Where an axis stands, if there is such an axis.
     pub fn position(&self, axis: u8) -> Option<Position> {
-        let index = usize::from(axis.checked_sub(1)?);
-        let account = self.accounts.get(index)?;
-        Some(account.position)
+        let [first, second, third] = self.builds;
+        match axis {
+            1 => Some(first.position(self.module.first().drive())),
+            2 => Some(second.position(self.module.second().drive())),
+            3 => Some(third.position(self.module.third().drive())),
+            _ => None,
+        }
     }
 
     pub fn counts(&self) -> [i64; 3]

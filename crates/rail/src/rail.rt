@@ -111,7 +111,10 @@ impl<'r, 'a> Rail<'r, 'a> {
             return Ok(());
         }
         for account in self.bench.accounts {
-            println!(self.rt; "{account}")?;
+            let axis = account.axis;
+            if let Some(position) = self.bench.position(axis) {
+                println!(self.rt; "axis {axis}: {position}; {account}")?;
+            }
         }
         self.again(drives)
     }
