@@ -1,9 +1,8 @@
-use Rattle.std.proofs.Common.{◌≡◌, ℕ, suc, ◌+◌, ◌-◌, ◌<◌, Ok, Err, Result, sym, ap, ◌∙◌, refl, arith}
+use Rattle.std.proofs.Common.{◌≡◌, ℕ, suc, ◌+◌, ◌-◌, ◌<◌, Ok, sym, ap, ◌∙◌, refl, arith}
 use Rattle.module.specs.declared.call.Act.TheVariants.{Tick}
 use Rattle.module.specs.declared.call.Answer.{Answer}
 use Rattle.module.specs.declared.call.Answer.TheVariants as answer
 use Rattle.module.specs.declared.call.Call.TheVariants.{OnAxis}
-use Rattle.module.specs.declared.fault.Fault.{Fault}
 use Rattle.module.specs.State.{Machine}
 use Rattle.module.specs.Machine.{Told, said_by, reply, step}
 use Rattle.rail.specs.Ticks.{Counted, go_on, counted}
