@@ -1,4 +1,2 @@
 pub mod Cuts
-pub mod Calls
-pub mod Bench
-pub mod Programs
+pub mod Ticks

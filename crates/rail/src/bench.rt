@@ -1,87 +1,67 @@
-ghost use Rattle.std.specs.Prelude.{◌≡◌, option_map};
-ghost use Rattle.rail.specs.Bench.{three_of, axis_at, acted_on, answers_on, counted, seen, observed_on};
+ghost use Rattle.std.specs.Prelude.{◌≡◌, ◌∷◌, []};
+ghost use Rattle.module.specs.Machine.{said_by, reply, step};
+ghost use Rattle.rail.specs.Ticks.{counted};
 
-use crate::build::Build;
-use crate::call::Act;
-use crate::fault::CallFault;
-use crate::mistake::Mistake;
-use crate::mounted::Mounted;
-use drives::fault::DriveFault;
-use states::Observation;
+use crate::account::Account;
+use crate::build::{Build, Layers, Position};
+use crate::fault::Placed;
+use drives::drive::Drive;
+use module::{Act, Answer, Call, Drives, Fault, Module};
+use std::alloc::{AllocError, Global};
 use std::fmt;
-use store::Store;
 
-/// The drives that a script asks for; an axis without one has a stage at 0.
-#[derive(Clone, Copy, Default)]
-pub struct Plan {
-    builds: [Option<Build>; 3],
-}
-
-impl Plan {
-    pub fn add(&mut self, axis: u8, build: Build) -> Result<(), Mistake> {
-        let index = axis.checked_sub(1).ok_or(Mistake::NoSuchAxis)?;
-        let slot = self
-            .builds
-            .get_mut(usize::from(index))
-            .ok_or(Mistake::NoSuchAxis)?;
-        match slot.replace(build) {
-            Some(_) => Err(Mistake::DriveTwice),
-            None => Ok(()),
-        }
-    }
-}
-
-fn mount(build: Option<Build>) -> Result<Mounted, DriveFault> {
-    Mounted::new(build.unwrap_or(Build::Clock { count: 0 }))
-}
-
-/// The three axes of the rail.
-// Fields and no array: the contract of an act names each of the three.
+/// The module on the drives of a script, with an account of each axis.
 #[derive(Drop)]
 pub struct Bench {
-    first: Mounted,
-    second: Mounted,
-    third: Mounted,
+    module: Module<Layers, Layers, Layers>,
+    builds: [Build; 3],
+    pub accounts: [Account; 3],
 }
 
 impl Bench {
-    pub fn new(plan: Plan) -> Result<Bench, DriveFault> {
-        let [first, second, third] = plan.builds;
-        Ok(Bench {
-            first: mount(first)?,
-            second: mount(second)?,
-            third: mount(third)?,
-        })
+    pub fn new(
+        heap: Global,
+        builds: [Build; 3],
+        drives: Drives<Layers, Layers, Layers>,
+    ) -> Result<Bench, AllocError> {
+        let accounts = [
+            Account::new(1, drives.first.count()),
+            Account::new(2, drives.second.count()),
+            Account::new(3, drives.third.count()),
+        ];
+        match Module::new(heap, drives) {
+            Ok(module) => Ok(Bench {
+                module,
+                builds,
+                accounts,
+            }),
+            Err(not_made) => Err(not_made.error),
+        }
     }
 
-    /// Acts on the axis of a number, with the programs in store.
-    pub fn act(&mut self, number: u8, store: &Store, act: Act) -> Result<(), CallFault>
-        ensures value { result ≡ answers_on number act store.now (three_of self.old) }
-        ensures after { three_of self.new ≡ acted_on number act store.now (three_of self.old) }
+    /// Makes a call, and keeps for the account what it sent and its fault.
+    pub fn call(&mut self, call: Call) -> Result<Answer, Fault>
+        ensures value { said_by result ≡ reply call.entry self.old.module }
+        ensures after { self.new.module ≡ step call.entry self.old.module }
     {
-        let reply = match number {
-            1 => self.first.act(store, act),
-            2 => self.second.act(store, act),
-            3 => self.third.act(store, act),
-            _ => {
-                return Err(CallFault::NoSuchAxis {
-                    axis: number,
-                    program: act.program_named(),
-                });
-            }
-        };
-        reply.map_err(|fault| CallFault::OfAxis {
-            axis: number,
-            fault,
-        })
+        let reply = self.module.call(call);
+        let [first, second, third] = self.counts();
+        self.accounts[0].note(first, reply);
+        self.accounts[1].note(second, reply);
+        self.accounts[2].note(third, reply);
+        reply
     }
 
     /// Makes up to so many ticks; the last one made is the first that answers a fault.
-    pub fn ticks(&mut self, number: u8, store: &Store, count: u32) -> Ticks
-        ensures { record { made = result.made; fault = result.fault; left = three_of self.new } ≡ counted count 0 number store.now (three_of self.old) }
+    pub fn ticks(&mut self, axis: u8, count: u32) -> Ticks
+        ensures { record { made = result.made; fault = result.fault; left = self.new.module } ≡ counted count 0 axis self.old.module }
     {
+        let tick = Call::OnAxis {
+            axis,
+            act: Act::Tick,
+        };
         for before in 0..count {
-            if let Err(fault) = self.act(number, store, Act::Tick) {
+            if let Err(fault) = self.call(tick) {
                 return Ticks {
                     made: before + 1,
                     fault: Some(fault),
@@ -94,33 +74,25 @@ impl Bench {
         }
     }
 
-    pub fn observe(&self, number: u8) -> Result<Observation, CallFault>
-        ensures { seen result ≡ observed_on number (three_of self.now) }
-    {
-        match self.axis(number) {
-            Some(axis) => Ok(axis.observe()),
-            None => Err(CallFault::NoSuchAxis {
-                axis: number,
-                program: 0,
-            }),
-        }
-    }
-
-    pub fn counts(&self) -> (i64, i64, i64)
-        ensures { result ≡ ((three_of self.now).first.drive.count, (three_of self.now).second.drive.count, (three_of self.now).third.drive.count) }
-    {
-        (self.first.count(), self.second.count(), self.third.count())
-    }
-
-    pub fn axis(&self, number: u8) -> Option<&Mounted>
-        ensures { option_map (λ axis. axis.now.axis) result ≡ axis_at number (three_of self.now) }
-    {
-        match number {
-            1 => Some(&self.first),
-            2 => Some(&self.second),
-            3 => Some(&self.third),
+    /// Where an axis stands, if there is such an axis.
+    pub fn position(&self, axis: u8) -> Option<Position> {
+        let [first, second, third] = self.builds;
+        match axis {
+            1 => Some(first.position(self.module.first().drive())),
+            2 => Some(second.position(self.module.second().drive())),
+            3 => Some(third.position(self.module.third().drive())),
             _ => None,
         }
+    }
+
+    pub fn counts(&self) -> [i64; 3]
+        ensures { result ≡ self.now.module.first.drive.count ∷ self.now.module.second.drive.count ∷ self.now.module.third.drive.count ∷ [] }
+    {
+        [
+            self.module.first().drive().count(),
+            self.module.second().drive().count(),
+            self.module.third().drive().count(),
+        ]
     }
 }
 
@@ -128,13 +100,13 @@ impl Bench {
 #[derive(Clone, Copy)]
 pub struct Ticks {
     pub made: u32,
-    pub fault: Option<CallFault>,
+    pub fault: Option<Fault>,
 }
 
 impl fmt::Display for Ticks {
     fn fmt<W: fmt::Write>(&self, f: &mut fmt::Formatter<W>) -> fmt::Result {
         let made = self.made;
-        match self.fault {
+        match self.fault.map(Placed) {
             None => write!(f, "{made} ticks ok"),
             Some(fault) => write!(f, "{made} ticks {fault}"),
         }

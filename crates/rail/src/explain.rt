@@ -1,10 +1,57 @@
 use drives::fault::DriveFault;
+use module::{Act, Call, Fault};
 use motion::DataFault;
 use states::{Cause, Mode, Observation, Pace};
 use std::fmt;
+use store::StoreFault;
 
-/// What a fault of an axis means.
-pub fn in_words(cause: Cause) -> &'static str {
+/// What it means that a call is answered by done.
+pub fn done_in_words(call: Call) -> &'static str {
+    match call {
+        Call::OnAxis { act, .. } => act_in_words(act),
+        Call::Open { .. } => "the entry is open",
+        Call::Add { .. } => "the line is added",
+        Call::Close { .. } => "the program is stored",
+        Call::Abandon { .. } => "the entry is over; its lines are gone",
+        Call::DeleteProgram { .. } => "the program is deleted",
+    }
+}
+
+fn act_in_words(act: Act) -> &'static str {
+    match act {
+        Act::Enter(_) => "the machine data are entered",
+        Act::Delete => "the machine data are deleted",
+        Act::Order(_) => "the order is accepted",
+        Act::Level(_) => "the levels are set",
+        Act::Tick => "one tick is made",
+        Act::Observe => "the axis is shown",
+    }
+}
+
+/// What a fault means.
+pub fn in_words(fault: Fault) -> &'static str {
+    match fault {
+        Fault::NoSuchAxis { .. } => "there is no such axis",
+        Fault::OfAxis { fault, .. } => cause_in_words(fault.cause),
+        Fault::OfStore(fault) => store_in_words(fault),
+        Fault::InUse(_) => "an axis runs or holds this program",
+    }
+}
+
+fn store_in_words(fault: StoreFault) -> &'static str {
+    match fault {
+        StoreFault::NotStored(_) => "no such program is stored",
+        StoreFault::OutOfRange(_) => "a program has a number from 1 to 255",
+        StoreFault::AlreadyStored(_) => "this program is stored already",
+        StoreFault::StoreFull(_) => "sixteen programs are stored",
+        StoreFault::EntryOpen(_) => "another entry is open",
+        StoreFault::NotOpen(_) => "this entry is not the open one",
+        StoreFault::Line(_) => "the line is refused; the entry stays open",
+        StoreFault::NotClosable(_) => "the program lacks its end or a feed; the entry is over",
+    }
+}
+
+fn cause_in_words(cause: Cause) -> &'static str {
     match cause {
         Cause::DataWhileBusy => "machine data are for an axis that stands",
         Cause::OfData(DataFault::OutOfRange) => "a datum is out of its range",
@@ -59,7 +106,7 @@ impl fmt::Display for Explained {
         match self.0.fault {
             None => Ok(()),
             Some(fault) => {
-                let words = in_words(fault.cause);
+                let words = cause_in_words(fault.cause);
                 write!(f, "; {words}")
             }
         }

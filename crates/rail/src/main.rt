@@ -4,15 +4,14 @@
 //! answer is followed by a line in plain words, and an account ends the run.
 #![tactic(auto)]
 
+mod account;
 mod bench;
 mod build;
-mod call;
 mod explain;
 mod fault;
 mod mistake;
-mod mounted;
 mod observed;
-mod programs;
+mod plan;
 mod rail;
 mod reading;
 mod replay;

@@ -1,4 +1,5 @@
-use crate::fault::CallFault;
+use crate::fault::Placed;
+use module::Fault;
 use states::Observation;
 use std::fmt;
 
@@ -30,10 +31,10 @@ impl fmt::Display for Observed {
         match fault {
             None => f.write_str(" fault none"),
             Some(fault) => {
-                let fault = CallFault::OfAxis {
+                let fault = Placed(Fault::OfAxis {
                     axis: self.axis,
                     fault,
-                };
+                });
                 write!(f, " {fault}")
             }
         }

@@ -1,129 +1,154 @@
 use crate::bench::Bench;
-use crate::call::{Ask, Call, Line};
-use crate::explain::Explained;
-use crate::fault::CallFault;
+use crate::build::{Build, Layers};
+use crate::explain::{Explained, done_in_words, in_words};
+use crate::fault::Placed;
 use crate::observed::Observed;
-use crate::programs::{self, Located};
 use crate::reading::Reading;
+use crate::script::Line;
+use drives::drive::Drive;
+use module::{Act, Answer, Call, Drives, run};
 use std::fmt;
-use store::Store;
+
+// The most calls that are made again: their list is kept in memory.
+const MOST_AGAIN: usize = 1_000_000;
 
 /// What a script acts on, and where its answers go.
 #[derive(Drop)]
-pub struct Rail<'a> {
-    rt: &'a HostRuntime,
+pub struct Rail<'r, 'a> {
+    rt: &'r HostRuntime,
     bench: Bench,
-    store: Store,
     explain: bool,
+    /// the calls made, up to one more than are made again, where they are to be explained
+    calls: Vec<Call<'a>>,
 }
 
-impl<'a> Rail<'a> {
-    pub fn new(rt: &'a HostRuntime, bench: Bench, explain: bool) -> anyhow::Result<Rail<'a>> {
-        let store = Store::new(rt.alloc())?;
+impl<'r, 'a> Rail<'r, 'a> {
+    pub fn new(
+        rt: &'r HostRuntime,
+        builds: [Build; 3],
+        drives: Drives<Layers, Layers, Layers>,
+        explain: bool,
+    ) -> anyhow::Result<Rail<'r, 'a>> {
         Ok(Rail {
             rt,
-            bench,
-            store,
+            bench: Bench::new(rt.alloc(), builds, drives)?,
             explain,
+            calls: Vec::new(rt.alloc()),
         })
     }
 
     /// Makes a call and prints its answer.
-    pub fn answer(&mut self, line: Line) -> anyhow::Result<()> {
+    pub fn answer(&mut self, line: Line<'a>) -> anyhow::Result<()> {
         match line {
             Line::Drive { .. } => Ok(()),
             Line::Call(call) => self.call(call),
+            Line::Ticks { axis, count } => self.ticks(axis, count),
             Line::Read { measure, text } => {
                 let reading = Reading::of(text, measure);
                 self.show(&reading)?;
-                self.say(reading.in_words())
-            }
-            Line::Program(call) => {
-                let reply = call.run(&mut self.store);
-                self.show_reply(&reply.map_err(Located))?;
-                self.say(programs::in_words(&reply))
+                self.say(0, &reading.in_words())
             }
         }
     }
 
-    fn call(&mut self, Call { axis, ask }: Call) -> anyhow::Result<()> {
-        match ask {
-            Ask::Act(act) => {
-                let reply = self.bench.act(axis, &self.store, act);
-                self.show_reply(&reply)?;
-                self.place(axis, &meaning_of(reply.err(), act.done_in_words()))
+    fn call(&mut self, call: Call<'a>) -> anyhow::Result<()> {
+        let axis = axis_of(call);
+        self.keep(call, 1)?;
+        match self.bench.call(call) {
+            Ok(Answer::Done) => {
+                self.show(&"ok")?;
+                self.say(axis, &done_in_words(call))
             }
-            Ask::Ticks(count) => {
-                let ticks = self.bench.ticks(axis, &self.store, count);
-                self.show(&ticks)?;
-                self.place(axis, &meaning_of(ticks.fault, "every tick is made"))
+            Ok(Answer::Shown(observation)) => {
+                self.show(&Observed { axis, observation })?;
+                self.say(axis, &Explained(observation))
             }
-            Ask::Observe => match self.bench.observe(axis) {
-                Ok(observation) => {
-                    self.show(&Observed { axis, observation })?;
-                    self.place(axis, &Explained(observation))
-                }
-                Err(fault) => {
-                    self.show(&fault)?;
-                    self.place(axis, &fault.in_words())
-                }
-            },
+            Err(fault) => {
+                self.show(&Placed(fault))?;
+                self.say(axis, &in_words(fault))
+            }
         }
     }
 
-    fn show_reply<E: fmt::Display>(&self, reply: &Result<(), E>) -> anyhow::Result<()> {
-        match reply {
-            Ok(()) => self.show(&"ok"),
-            Err(fault) => self.show(fault),
+    fn ticks(&mut self, axis: u8, count: u32) -> anyhow::Result<()> {
+        let ticks = self.bench.ticks(axis, count);
+        let act = Act::Tick;
+        self.keep(Call::OnAxis { axis, act }, ticks.made)?;
+        self.show(&ticks)?;
+        self.say(axis, &ticks.fault.map_or("every tick is made", in_words))
+    }
+
+    // Keeps a call that is made so many times.
+    fn keep(&mut self, call: Call<'a>, times: u32) -> anyhow::Result<()> {
+        if self.explain {
+            let count = self.calls.len().saturating_add(times as usize);
+            self.calls.resize(count.min(MOST_AGAIN + 1), call)?;
         }
+        Ok(())
     }
 
     fn show<T: fmt::Display>(&self, reply: &T) -> anyhow::Result<()> {
-        let (x, y, z) = self.bench.counts();
+        let [x, y, z] = self.bench.counts();
         println!(self.rt; "{reply} | {x} {y} {z}")?;
         Ok(())
     }
 
-    // The plain words to an answer, where they are wanted.
-    fn say(&self, words: &str) -> anyhow::Result<()> {
-        if self.explain {
-            println!(self.rt; "  {words}")?;
+    // What an answer means and where the axis of the call stands after it, where that is wanted.
+    fn say<T: fmt::Display>(&self, axis: u8, words: &T) -> anyhow::Result<()> {
+        if !self.explain {
+            return Ok(());
+        }
+        match self.bench.position(axis) {
+            Some(position) => println!(self.rt; "  {words}; axis {axis}: {position}")?,
+            None => println!(self.rt; "  {words}")?,
         }
         Ok(())
     }
 
-    // What an answer means and where its axis stands after it, where that is wanted.
-    fn place<T: fmt::Display>(&self, axis: u8, words: &T) -> anyhow::Result<()> {
+    /// A short account of each axis at the end, where that is wanted, and all calls once more on new drives.
+    pub fn account(&self, drives: Drives<Layers, Layers, Layers>) -> anyhow::Result<()> {
         if !self.explain {
             return Ok(());
         }
-        match self.bench.axis(axis) {
-            Some(mounted) => {
-                let position = mounted.position();
-                println!(self.rt; "  {words}; axis {axis}: {position}")?;
+        for account in self.bench.accounts {
+            let axis = account.axis;
+            if let Some(position) = self.bench.position(axis) {
+                println!(self.rt; "axis {axis}: {position}; {account}")?;
             }
-            None => println!(self.rt; "  there is no axis {axis}")?,
         }
-        Ok(())
+        self.again(drives)
     }
 
-    /// A short account of each axis at the end, where that is wanted.
-    pub fn account(&self) -> anyhow::Result<()> {
-        if !self.explain {
+    // Whether the same calls as one list leave the same counts.
+    fn again(&self, drives: Drives<Layers, Layers, Layers>) -> anyhow::Result<()> {
+        let count = self.calls.len();
+        if count > MOST_AGAIN {
+            println!(self.rt; "more than {MOST_AGAIN} calls: not made again as one list")?;
             return Ok(());
         }
-        for axis in 1..4 {
-            if let Some(mounted) = self.bench.axis(axis) {
-                println!(self.rt; "axis {axis}: {mounted}")?;
-            }
-        }
+        let drives = match run(self.rt.alloc(), drives, &self.calls) {
+            Ok(ran) => ran.drives,
+            Err(not_made) => return Err(not_made.error.into()),
+        };
+        let counts = [
+            drives.first.count(),
+            drives.second.count(),
+            drives.third.count(),
+        ];
+        let verdict = if counts == self.bench.counts() {
+            "the same counts"
+        } else {
+            "other counts"
+        };
+        println!(self.rt; "{count} calls made again as one list: {verdict}")?;
         Ok(())
     }
 }
 
-fn meaning_of(fault: Option<CallFault>, done: &'static str) -> &'static str {
-    match fault {
-        None => done,
-        Some(fault) => fault.in_words(),
+// The axis that a call names, 0 for none.
+fn axis_of(call: Call) -> u8 {
+    match call {
+        Call::OnAxis { axis, .. } => axis,
+        _ => 0,
     }
 }

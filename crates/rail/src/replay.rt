@@ -1,8 +1,7 @@
-use crate::bench::{Bench, Plan};
-use crate::call::Line;
 use crate::mistake::Mistake;
+use crate::plan::Plan;
 use crate::rail::Rail;
-use crate::script::read_line;
+use crate::script::{Line, read_line};
 use drives::fault::DriveFault;
 use thiserror::Error;
 
@@ -17,22 +16,23 @@ pub enum Stop {
     Output(#[from] anyhow::Error),
 }
 
-/// Makes the drives and the store, then each call in turn, and prints its answer.
+/// Makes the drives and the module, then each call in turn, and prints its answer.
 pub fn replay(rt: &HostRuntime, lines: &[&[u8]], explain: bool) -> Result<(), Stop> {
-    let bench = Bench::new(plan_drives(lines)?)?;
-    let mut rail = Rail::new(rt, bench, explain)?;
+    let plan = plan_drives(lines)?;
+    let mut rail = Rail::new(rt, plan.builds(), plan.drives()?, explain)?;
     let mut calling = false;
     for (i, line) in lines.iter().enumerate() {
         let Some(line) = read(*line, i)? else {
             continue;
         };
-        if calling && !line.is_call() {
+        let is_call = !matches!(line, Line::Drive { .. });
+        if calling && !is_call {
             return Err(mistake_at(i, Mistake::DriveAfterCall));
         }
-        calling = line.is_call();
+        calling = is_call;
         rail.answer(line)?;
     }
-    Ok(rail.account()?)
+    Ok(rail.account(plan.drives()?)?)
 }
 
 // The drive lines before the first call.

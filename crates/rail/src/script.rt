@@ -1,11 +1,22 @@
 use crate::build::Build;
-use crate::call::{Act, Ask, Call, Line, ProgramAsk, ProgramCall};
 use crate::mistake::{Field, Mistake};
 use crate::words::Words;
 use axis::Levels;
+use module::{Act, Call};
 use motion::RawData;
 use states::{Command, Order, Switches};
 use units::Measure;
+
+/// One line of a script that says something.
+#[derive(Clone, Copy)]
+pub enum Line<'a> {
+    Drive { axis: u8, build: Build },
+    Call(Call<'a>),
+    /// Up to so many ticks.
+    Ticks { axis: u8, count: u32 },
+    /// A program line for the reader alone, in a program without blocks.
+    Read { measure: Measure, text: &'a [u8] },
+}
 
 /// Reads a line of the script, its end left off: none where it is empty or a remark.
 pub fn read_line<'a>(line: &'a [u8]) -> Result<Option<Line<'a>>, Mistake> {
@@ -13,28 +24,52 @@ pub fn read_line<'a>(line: &'a [u8]) -> Result<Option<Line<'a>>, Mistake> {
         return Ok(None);
     }
     let mut words = Words::new(line);
-    let read = match words.next() {
-        Some(b"drive") => read_drive(&mut words)?,
-        Some(b"data") => axis_line(words.number(Field::Axis)?, read_data(&mut words)?),
-        Some(b"nodata") => axis_line(words.number(Field::Axis)?, Ask::Act(Act::Delete)),
-        Some(b"order") => axis_line(words.number(Field::Axis)?, read_order(&mut words)?),
-        Some(b"levels") => axis_line(words.number(Field::Axis)?, read_levels(&mut words)?),
-        Some(b"tick") => axis_line(words.number(Field::Axis)?, read_ticks(&mut words)?),
-        Some(b"observe") => axis_line(words.number(Field::Axis)?, Ask::Observe),
-        Some(b"open") => program_line(words.number(Field::Number)?, read_open(&mut words)?),
-        Some(b"add") => program_line(
-            words.number(Field::Number)?,
-            ProgramAsk::Add {
-                text: words.take_text(),
-            },
-        ),
-        Some(b"close") => program_line(words.number(Field::Number)?, ProgramAsk::Close),
-        Some(b"abandon") => program_line(words.number(Field::Number)?, ProgramAsk::Abandon),
-        Some(b"read") => read_alone(&mut words)?,
-        _ => return Err(Mistake::UnknownCall),
+    let read = match words.next().unwrap_or(&[]) {
+        b"drive" => read_drive(&mut words)?,
+        b"tick" => read_ticks(&mut words)?,
+        b"read" => read_alone(&mut words)?,
+        name => Line::Call(read_call(name, &mut words)?),
     };
     words.end()?;
     Ok(Some(read))
+}
+
+fn read_call<'a>(name: &[u8], words: &mut Words<'a>) -> Result<Call<'a>, Mistake> {
+    match name {
+        b"data" => Ok(on_axis(words.number(Field::Axis)?, read_data(words)?)),
+        b"nodata" => Ok(on_axis(words.number(Field::Axis)?, Act::Delete)),
+        b"order" => Ok(on_axis(words.number(Field::Axis)?, read_order(words)?)),
+        b"levels" => Ok(on_axis(words.number(Field::Axis)?, read_levels(words)?)),
+        b"observe" => Ok(on_axis(words.number(Field::Axis)?, Act::Observe)),
+        _ => read_program_call(name, words),
+    }
+}
+
+fn on_axis<'a>(axis: u8, act: Act) -> Call<'a> {
+    Call::OnAxis { axis, act }
+}
+
+fn read_program_call<'a>(name: &[u8], words: &mut Words<'a>) -> Result<Call<'a>, Mistake> {
+    match name {
+        b"open" => Ok(Call::Open {
+            number: words.number(Field::Number)?,
+            measure: read_measure(words)?,
+        }),
+        b"add" => Ok(Call::Add {
+            number: words.number(Field::Number)?,
+            line: words.take_text(),
+        }),
+        b"close" => Ok(Call::Close {
+            number: words.number(Field::Number)?,
+        }),
+        b"abandon" => Ok(Call::Abandon {
+            number: words.number(Field::Number)?,
+        }),
+        b"delete" => Ok(Call::DeleteProgram {
+            number: words.number(Field::Number)?,
+        }),
+        _ => Err(Mistake::UnknownCall),
+    }
 }
 
 fn read_drive<'a>(words: &mut Words) -> Result<Line<'a>, Mistake> {
@@ -77,11 +112,11 @@ const RATES: [&str; 7] = ["fm", "fs", "a", "duration", "patterns", "W", "P"];
 
 const PLACES: [&str; 7] = ["low", "high", "reference", "o1", "o2", "o3", "o4"];
 
-fn read_data(words: &mut Words) -> Result<Ask, Mistake> {
+fn read_data(words: &mut Words) -> Result<Act, Mistake> {
     let measure = measure_in(words.datum("measure")?)?;
     let [fm, fs, increase, duration, patterns, units, pulses] = words.data(RATES)?;
     let [low, high, reference, o1, o2, o3, o4] = words.data(PLACES)?;
-    Ok(Ask::Act(Act::Enter(RawData {
+    Ok(Act::Enter(RawData {
         fm,
         fs,
         increase,
@@ -94,17 +129,17 @@ fn read_data(words: &mut Words) -> Result<Ask, Mistake> {
         reference,
         offsets: [o1, o2, o3, o4],
         measure,
-    })))
+    }))
 }
 
-fn read_order(words: &mut Words) -> Result<Ask, Mistake> {
-    Ok(Ask::Act(Act::Order(Order {
+fn read_order(words: &mut Words) -> Result<Act, Mistake> {
+    Ok(Act::Order(Order {
         mode: words.number(Field::Mode)?,
         command: read_command(words)?,
         byte: words.number(Field::Byte)?,
         word: words.number(Field::Word)?,
         double: words.number(Field::DoubleWord)?,
-    })))
+    }))
 }
 
 fn read_command(words: &mut Words) -> Result<Command, Mistake> {
@@ -118,31 +153,35 @@ fn read_command(words: &mut Words) -> Result<Command, Mistake> {
     }
 }
 
-fn read_levels(words: &mut Words) -> Result<Ask, Mistake> {
+fn read_levels(words: &mut Words) -> Result<Act, Mistake> {
     let switches = Switches {
         begin: words.flag(Field::Begin)?,
         end: words.flag(Field::End)?,
     };
     let ready = words.flag(Field::Ready)?;
-    Ok(Ask::Act(Act::Level(Levels { switches, ready })))
+    Ok(Act::Level(Levels { switches, ready }))
 }
 
-fn read_ticks(words: &mut Words) -> Result<Ask, Mistake> {
+fn read_ticks<'a>(words: &mut Words<'a>) -> Result<Line<'a>, Mistake> {
+    let axis = words.number(Field::Axis)?;
     match words.end() {
-        Ok(()) => Ok(Ask::Act(Act::Tick)),
-        Err(_) => Ok(Ask::Ticks(words.number(Field::Ticks)?)),
+        Ok(()) => Ok(Line::Call(on_axis(axis, Act::Tick))),
+        Err(_) => Ok(Line::Ticks {
+            axis,
+            count: words.number(Field::Ticks)?,
+        }),
     }
 }
 
-fn read_open<'a>(words: &mut Words) -> Result<ProgramAsk<'a>, Mistake> {
-    let measure = measure_in(words.word(Field::Measure)?)?;
-    Ok(ProgramAsk::Open { measure })
+fn read_alone<'a>(words: &mut Words<'a>) -> Result<Line<'a>, Mistake> {
+    Ok(Line::Read {
+        measure: read_measure(words)?,
+        text: words.take_text(),
+    })
 }
 
-fn read_alone<'a>(words: &mut Words<'a>) -> Result<Line<'a>, Mistake> {
-    let measure = measure_in(words.word(Field::Measure)?)?;
-    let text = words.take_text();
-    Ok(Line::Read { measure, text })
+fn read_measure(words: &mut Words) -> Result<Measure, Mistake> {
+    measure_in(words.word(Field::Measure)?)
 }
 
 fn measure_in(word: &[u8]) -> Result<Measure, Mistake> {
@@ -152,12 +191,4 @@ fn measure_in(word: &[u8]) -> Result<Measure, Mistake> {
         b"degree" => Ok(Measure::Degree),
         _ => Err(Mistake::Expected(Field::Measure)),
     }
-}
-
-fn axis_line<'a>(axis: u8, ask: Ask) -> Line<'a> {
-    Line::Call(Call { axis, ask })
-}
-
-fn program_line<'a>(number: u8, ask: ProgramAsk<'a>) -> Line<'a> {
-    Line::Program(ProgramCall { number, ask })
 }

@@ -1,7 +1,7 @@
 use crate::mistake::{Field, Mistake};
 use crate::script::read_line;
 
-const READ: [&[u8]; 29] = [
+const READ: [&[u8]; 31] = [
     b"",
     b"# a remark",
     b"#",
@@ -31,14 +31,16 @@ const READ: [&[u8]; 29] = [
     b"add 255",
     b"add 7  N10 X1 ",
     b"abandon 007",
+    b"delete 7",
+    b"delete 255",
 ];
 
-const REFUSED: [(&[u8], Mistake); 49] = [
+const REFUSED: [(&[u8], Mistake); 52] = [
     (b" levels 1 0 0 1", Mistake::UnknownCall),
     (b"level 1 0 0 1", Mistake::UnknownCall),
     (b"Levels 1 0 0 1", Mistake::UnknownCall),
     (b"pulse 1 forward", Mistake::UnknownCall),
-    (b"delete 7", Mistake::UnknownCall),
+    (b"Delete 7", Mistake::UnknownCall),
     (b"\r", Mistake::UnknownCall),
     (b"\xff", Mistake::UnknownCall),
     (b"data", Mistake::Missing(Field::Axis)),
@@ -118,6 +120,9 @@ const REFUSED: [(&[u8], Mistake); 49] = [
     (b"open 7", Mistake::Missing(Field::Measure)),
     (b"open 256 mm", Mistake::Expected(Field::Number)),
     (b"close 7 ", Mistake::TooManyWords),
+    (b"delete", Mistake::Missing(Field::Number)),
+    (b"delete 256", Mistake::Expected(Field::Number)),
+    (b"delete 7 8", Mistake::TooManyWords),
     (b"drive 1 stepper 0", Mistake::Expected(Field::Stage)),
     (
         b"drive 1 takeup 65536 clock 0",

@@ -1,24 +1,32 @@
-use Rattle.std.proofs.Common.{◌≡◌, ℕ, suc, ◌+◌, ◌-◌, ◌<◌, Result, sym, ap, ◌∙◌, arith}
-use Rattle.store.specs.Programs.{Programs}
-use Rattle.rail.specs.declared.call.Act.TheVariants.{Tick}
-use Rattle.rail.specs.declared.fault.CallFault.{CallFault}
-use Rattle.rail.specs.Bench.{Three, three_of, acted_on, answers_on, go_on, counted}
+use Rattle.std.proofs.Common.{◌≡◌, ℕ, suc, ◌+◌, ◌-◌, ◌<◌, Ok, sym, ap, ◌∙◌, refl, arith}
+use Rattle.module.specs.declared.call.Act.TheVariants.{Tick}
+use Rattle.module.specs.declared.call.Answer.{Answer}
+use Rattle.module.specs.declared.call.Answer.TheVariants as answer
+use Rattle.module.specs.declared.call.Call.TheVariants.{OnAxis}
+use Rattle.module.specs.State.{Machine}
+use Rattle.module.specs.Machine.{Told, said_by, reply, step}
+use Rattle.rail.specs.Ticks.{Counted, go_on, counted}
 use Rattle.rail.proofs.bench.Bench.ticks.Goals as goal
 
--- tick i of m, by what it is answered and what it leaves
-tick_of : (m i n : ℕ) (p : Programs) (t left : Three) (r : Result (Unit {0}) CallFault) → i < m → answers_on n Tick p t ≡ r → left ≡ acted_on n Tick p t
-    → go_on r (i + 1) left (counted (m - (i + 1)) (i + 1) n p left) ≡ counted (m - i) i n p t
-tick_of m i n p t left r h e l =
+-- tick i of m, by what it is told and what it leaves
+tick_of : (m i n : ℕ) (s left : Machine) (r : Told) → i < m → r ≡ reply (OnAxis n Tick) s → left ≡ step (OnAxis n Tick) s
+    → go_on r (i + 1) left (counted (m - (i + 1)) (i + 1) n left) ≡ counted (m - i) i n s
+tick_of m i n s left r h e l =
     let more : m - i ≡ suc (m - (i + 1)) = omega (arith, h) in
-    ap (λ s. go_on r (i + 1) s (counted (m - (i + 1)) (i + 1) n p s)) l
-    ∙ (ap (λ q. go_on q (i + 1) (acted_on n Tick p t) (counted (m - (i + 1)) (i + 1) n p (acted_on n Tick p t))) (sym e) ∙ ap (λ k. counted k i n p t) (sym more))
+    ap (λ s′. go_on r (i + 1) s′ (counted (m - (i + 1)) (i + 1) n s′)) l
+    ∙ (ap (λ q. go_on q (i + 1) (step (OnAxis n Tick) s) (counted (m - (i + 1)) (i + 1) n (step (OnAxis n Tick) s))) e ∙ ap (λ k. counted k i n s) (sym more))
+
+goes_on : (a : Answer) (made : ℕ) (s : Machine) (more : Counted) → go_on (said_by (Ok a)) made s more ≡ more
+goes_on answer.Done made s more = refl
+goes_on (answer.Shown o) made s more = refl
 
 pub returns-in-Err : goal.returns-in-Err
 returns-in-Err c =
-    tick_of c.args.count c.loop-before.before c.args.number c.args.store.now (three_of c.loop-before.self) (three_of c.act.new.self) _ c.loop-before-test.true (sym c.act.ensures.value ∙ c.in-Err.is) c.act.ensures.after
+    tick_of c.args.count c.loop-before.before c.args.axis c.loop-before.self.module c.call.new.self.module _ c.loop-before-test.true c.in-Err.ensures.value c.in-Err.ensures.after
     ∙ c.loop-before.invariant
 
 pub loop-before-preserved : goal.loop-before-preserved
 loop-before-preserved c =
-    tick_of c.args.count c.loop-before.before c.args.number c.args.store.now (three_of c.loop-before.self) (three_of c.act.new.self) _ c.loop-before-test.true (sym c.act.ensures.value ∙ c.in_default.is) c.act.ensures.after
-    ∙ c.loop-before.invariant
+    sym (goes_on c.in_default.field-0 _ _ _)
+    ∙ (tick_of c.args.count c.loop-before.before c.args.axis c.loop-before.self.module c.call.new.self.module _ c.loop-before-test.true c.in_default.ensures.value c.in_default.ensures.after
+    ∙ c.loop-before.invariant)
