@@ -14,7 +14,7 @@ ended = refl
 short : ramp_of axis_a 4096 ≡ axis_a.fm
 short = past axis_a.fs axis_a.fm axis_a.increase 5 4095 ended (omega arith)
 
-accepted : data_refusal axis_a ≡ None
+pub accepted : data_refusal axis_a ≡ None
 unfolding data_refusal
 accepted = rw short refl
 

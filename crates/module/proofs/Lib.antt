@@ -5,3 +5,4 @@ pub mod Standing
 pub mod Promised
 pub mod Used
 pub mod Worked
+pub mod Tokens

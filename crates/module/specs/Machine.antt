@@ -2,6 +2,9 @@
 use Rattle.std.specs.Prelude.{ℕ, Bool, cond, ◌||◌, List, [], ◌∷◌, is_some, Some, None, Ok, Err, Option, Result, ◌==◌}
 use Rattle.drives.specs.Meaning.{Meaning}
 use Rattle.store.specs.declared.entry.Entry.{Entry}
+use Rattle.store.specs.declared.entry.HandedBack.{HandedBack}
+use Rattle.store.specs.declared.entry.CloseRefusal.{CloseRefusal}
+use Rattle.store.specs.declared.entry.CloseRefusal.TheVariants.{NotThisOne, Ended}
 use Rattle.store.specs.declared.fault.StoreFault.{StoreFault}
 use Rattle.store.specs.declared.fault.StoreFault.TheVariants.{NotStored}
 use Rattle.store.specs.Programs.{Programs, empty, found}
@@ -168,3 +171,17 @@ token_or (Err f) = Err (OfStore f)
 
 abbrev pub opened_reply : ℕ → Machine → Result Entry Fault
 opened_reply n s = token_or (open_reply n s.programs)
+
+-- what the calls by token are told, apart from the token that is given or handed back
+abbrev pub opening_told : Result Entry Fault → Told
+opening_told (Ok e) = done
+opening_told (Err f) = refused f
+
+abbrev pub closing_told : Result (Unit {0}) CloseRefusal → Told
+closing_told (Ok u) = done
+closing_told (Err (NotThisOne back)) = refused (OfStore back.fault)
+closing_told (Err (Ended f)) = refused (OfStore f)
+
+abbrev pub abandoning_told : Result (Unit {0}) HandedBack → Told
+abandoning_told (Ok u) = done
+abandoning_told (Err back) = refused (OfStore back.fault)
