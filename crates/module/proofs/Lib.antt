@@ -6,3 +6,4 @@ pub mod Promised
 pub mod Used
 pub mod Worked
 pub mod Tokens
+pub mod Giving

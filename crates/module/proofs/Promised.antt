@@ -4,7 +4,7 @@ use Rattle.drives.specs.Meaning.{Meaning, Sound}
 use Rattle.motion.specs.Laws.{Near}
 use Rattle.states.specs.State.{AxisState}
 use Rattle.laws.specs.Acts as one
-use Rattle.laws.specs.Laws.{offset_given, tool_given}
+use Rattle.laws.specs.Laws as laws
 use Rattle.laws.specs.Reckoned as reckoned
 use Rattle.laws.proofs.Invariant.{no_pulse_refused}
 use Rattle.laws.proofs.Reckoning.{drift_bound, limits}
@@ -14,6 +14,7 @@ use Rattle.module.specs.State.{Machine}
 use Rattle.module.specs.Machine.{Told, new_machine, after, replies}
 use Rattle.module.specs.Heard.{Which, first, second, third, number, axis_at, Heard, heard, data_said, zero_said, offset_said, tool_said, reference_said}
 use Rattle.module.specs.Promise.{DriftBound, ShiftLaw, LimitsLaw, PulsesTaken, NoDrift, Exact, Promise}
+use Rattle.module.proofs.Giving.{offset_given, tool_given}
 use Rattle.module.proofs.Axes.{events, after_at}
 use Rattle.module.proofs.Heards.{heard_of, heard_same, data_same, zero_same, offset_same, tool_same, reference_same}
 use Rattle.module.proofs.Standing.{stop_law}
@@ -34,11 +35,11 @@ module _ (w : Which) (m : Meaning) (sound : Sound m) (s : Machine) (q : axis_at 
   zero_is = rw k (zero_same (number w) (events w s calls) (one.new_axis m) None (pos 0))
 
   -- Z
-  offset_is : offset_said hs (pos 0) ≡ offset_given (one.new_axis m) (events w s calls) (pos 0)
+  offset_is : offset_said hs (pos 0) ≡ laws.offset_given (one.new_axis m) (events w s calls) (pos 0)
   offset_is = rw k (offset_same (number w) (events w s calls) (one.new_axis m) (pos 0))
 
   -- T
-  tool_is : tool_said hs (pos 0) ≡ tool_given (one.new_axis m) (events w s calls) (pos 0)
+  tool_is : tool_said hs (pos 0) ≡ laws.tool_given (one.new_axis m) (events w s calls) (pos 0)
   tool_is = rw k (tool_same (number w) (events w s calls) (one.new_axis m) (pos 0))
 
   -- the reference
@@ -69,6 +70,8 @@ module _ (w : Which) (m : Meaning) (sound : Sound m) (s : Machine) (q : axis_at 
   new_no_drift = record {
     drift = drift_holds;
     shift = shift_holds;
+    offset = offset_given hs;
+    tool = tool_given hs;
     limits = limits_hold;
     stop = stop_law w m sound s q calls;
     taken = pulses_taken;

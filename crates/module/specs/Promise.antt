@@ -17,6 +17,7 @@ use Rattle.module.specs.declared.three.NotMade.{NotMade}
 use Rattle.module.specs.declared.runs.Ran.{Ran}
 use Rattle.module.specs.Machine.{Told, done, said_by, new_machine, step, reply, after, replies}
 use Rattle.module.specs.Heard.{Which, number, axis_at, Heard, heard, data_said, zero_said, offset_said, tool_said, reference_said, ticks_of}
+use Rattle.module.specs.Given.{accepted, sets_offset, adds_offset, sets_tool, adds_tool, LastAndAfter}
 use Rattle.module.specs.State.{Machine}
 
 -- EXACT: the replies, and the drives after the calls, are the machine's
@@ -41,7 +42,8 @@ abbrev pub DriftBound : Which → Machine → List Call → List Heard → Type 
 DriftBound w s calls hs = (d : RawData) → data_said hs None ≡ Some d
     → Near d.units d.pulses (count w s calls -ℤ zero_said hs None (pos 0)) (shows w s calls).coordinate
 
--- with no program running or held, the shift is what the accepted orders gave
+-- with no program running or held, the shift is what the accepted orders gave: Z and T, each the last value that an accepted
+-- act set and what was added to it after that
 abbrev pub ShiftLaw : Which → Machine → List Call → List Heard → Type 0
 ShiftLaw w s calls hs = course_of (axis_at w (after s calls)).status.work.phase ≡ None
     → (shows w s calls).shift ≡ offset_said hs (pos 0) +ℤ tool_said hs (pos 0)
@@ -70,6 +72,8 @@ PulsesTaken w s calls = TakenIn (axis_at w (after s calls)).status.work.phase (a
 pub record NoDrift (w : Which) (s : Machine) (calls : List Call) (hs : List Heard) : Type 0 where
   pub drift : DriftBound w s calls hs
   pub shift : ShiftLaw w s calls hs
+  pub offset : LastAndAfter sets_offset adds_offset (accepted hs) (offset_said hs (pos 0))
+  pub tool : LastAndAfter sets_tool adds_tool (accepted hs) (tool_said hs (pos 0))
   pub limits : LimitsLaw w s calls hs
   pub stop : StopLaw w s calls
   pub taken : PulsesTaken w s calls
