@@ -5,9 +5,10 @@
 mod tests {
     use axis::Levels;
     use drives::clock_stage::ClockStage;
-    use module::{Act, Answer, Call, Drives, Fault, Module};
+    use drives::drive::Drive;
+    use module::{Act, Answer, Call, Drives, Fault, Module, Place, run};
     use motion::RawData;
-    use states::{Command, Order, Switches};
+    use states::{Command, Layer, Order, Switches};
     use std::test::Fail;
     use units::Measure;
 
@@ -172,12 +173,7 @@ mod tests {
     // 17 is reached by no list, and 2 belongs to making a drive.
     #[test]
     fn every_number(rt: HostRuntime) -> Result<(), Fail> {
-        let drives = Drives {
-            first: ClockStage::new(0)?,
-            second: ClockStage::new(999_999_999_990)?,
-            third: ClockStage::new(0)?,
-        };
-        let mut module = Module::new(rt.alloc(), drives).map_err(|refused| refused.error)?;
+        let mut module = Module::new(rt.alloc(), stages()?).map_err(|refused| refused.error)?;
         for (ask, number) in &CALLS {
             assert_eq!(rt; number_of(module.call(call_of(*ask))), *number);
         }
@@ -194,6 +190,124 @@ mod tests {
             number_of(module.call(call_of(Open(25, Measure::Inch)))),
             Some(28)
         );
+        Ok(())
+    }
+
+    // What goes wrong after some of the calls above, whole: number, layer and place.
+    const PLACES: [(Ask, u8, Layer, Place); 7] = [
+        (
+            Tick(4),
+            1,
+            Layer::Axis,
+            Place::At {
+                axis: 4,
+                program: 0,
+                block: 0,
+            },
+        ),
+        (
+            Ask::Order(0, 9, Start, 7, 0, 0),
+            1,
+            Layer::Axis,
+            Place::At {
+                axis: 0,
+                program: 7,
+                block: 0,
+            },
+        ),
+        (
+            NoData(3),
+            7,
+            Layer::Axis,
+            Place::At {
+                axis: 3,
+                program: 0,
+                block: 0,
+            },
+        ),
+        (
+            Ask::Order(3, 8, Start, 7, 0, 0),
+            7,
+            Layer::Axis,
+            Place::At {
+                axis: 3,
+                program: 7,
+                block: 0,
+            },
+        ),
+        (
+            Delete(7),
+            14,
+            Layer::Store,
+            Place::At {
+                axis: 0,
+                program: 7,
+                block: 0,
+            },
+        ),
+        (
+            Open(0, Measure::Inch),
+            26,
+            Layer::Store,
+            Place::At {
+                axis: 0,
+                program: 0,
+                block: 0,
+            },
+        ),
+        (
+            Close(7),
+            30,
+            Layer::Store,
+            Place::At {
+                axis: 0,
+                program: 7,
+                block: 0,
+            },
+        ),
+    ];
+
+    fn stages() -> Result<Drives<ClockStage, ClockStage, ClockStage>, Fail> {
+        Ok(Drives {
+            first: ClockStage::new(0)?,
+            second: ClockStage::new(999_999_999_990)?,
+            third: ClockStage::new(0)?,
+        })
+    }
+
+    #[test]
+    fn faults_with_their_places(rt: HostRuntime) -> Result<(), Fail> {
+        let mut module = Module::new(rt.alloc(), stages()?).map_err(|refused| refused.error)?;
+        for (ask, number, layer, place) in &PLACES {
+            let fault = module.call(call_of(*ask)).err();
+            assert_eq!(rt; fault.map(|fault| fault.number()), Some(*number));
+            assert_eq!(rt; fault.map(|fault| fault.layer()), Some(*layer));
+            assert_eq!(rt; fault.map(|fault| fault.place()), Some(*place));
+        }
+        module.call(call_of(Open(7, Measure::Inch)))?;
+        let fault = module.call(call_of(Add(7, b"X1 Y2"))).err();
+        assert_eq!(rt; fault.map(|fault| fault.layer()), Some(Layer::Line));
+        assert_eq!(rt; fault.map(|fault| fault.place()), Some(Place::Byte(3)));
+        Ok(())
+    }
+
+    // The calls as one list, which has all its memory before the first: the same answers.
+    #[test]
+    fn one_list(rt: HostRuntime) -> Result<(), Fail> {
+        let mut calls = Vec::new(rt.alloc());
+        for (ask, _) in &CALLS {
+            calls.push(call_of(*ask))?;
+        }
+        let ran = run(rt.alloc(), stages()?, &calls).map_err(|refused| refused.error)?;
+        assert_eq!(rt; ran.replies.len(), CALLS.len());
+        for (i, (_, number)) in CALLS.iter().enumerate() {
+            assert_eq!(rt;
+                ran.replies.get(i).and_then(|reply| number_of(*reply)),
+                *number
+            );
+        }
+        assert_eq!(rt; ran.drives.first.count(), 0);
+        assert_eq!(rt; ran.drives.second.count(), 999_999_999_991);
         Ok(())
     }
 }
