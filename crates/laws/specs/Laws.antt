@@ -103,7 +103,7 @@ abbrev pub tool_given : AxisState → List Event → ℤ → ℤ
 tool_given a [] t = t
 tool_given a (e ∷ es) t = tool_given (step e a) es (cond (is_accepted e a) (tool_after e.act t) t)
 
--- outside a program the shift is what the accepted orders gave since the machine data came: no program leaves a trace in it
+-- outside a program the shift is what the accepted orders gave since the machine data came: nothing that a program did stays in it
 abbrev pub ShiftIs : AxisState → ℤ → Type 0
 ShiftIs a z = course_of a.status.work.phase ≡ None → shift_of a.status.machine a.status.work ≡ z
 
