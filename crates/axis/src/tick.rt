@@ -1,6 +1,7 @@
 ghost use Rattle.std.specs.Prelude.{◌≡◌};
 ghost use Rattle.drives.specs.Sending.{sent};
 ghost use Rattle.states.specs.View.{raw_in, going_in, travel_of, status_of};
+ghost use Rattle.states.specs.declared.state.State.TheVariants.{Moving, Braking};
 ghost use Rattle.states.specs.Moves.{direction_of, ticked_in, braked_in};
 ghost use Rattle.ticks.specs.Ticks.{run_step, slow_step, tick_step, tick_reply};
 ghost use Rattle.ticks.specs.Moving.{trouble as trouble_for};
@@ -13,7 +14,7 @@ use states::movers::{brake_in, tick_in};
 use states::{AxisFault, Cause, Journey, Reading, Record, State};
 use store::Store;
 use ticks::blocks::take;
-use ticks::moving::{direction_of, fail, is_ahead, settle, settle_braking};
+use ticks::moving::{direction_of, fail, follow, is_ahead, settle, settle_braking};
 
 // Functions over an axis's drive and its record, since their contracts name the move in progress, of which
 // the axis tells only while it moves. A tick and a braking tick differ in what they run and in what they
@@ -30,20 +31,30 @@ fn pulse<D: Drive>(drive: &mut D, journey: Journey, pulses: u64) -> Reading
 
 // A tick of motion.
 fn run_on<D: Drive>(drive: &mut D, status: &mut Record, journey: Journey)
+    requires { status.old.work.state ≡ Moving journey }
     ensures { record { drive = D.Drive.meaning drive.new; status = status_of status.new } ≡ run_step (ticked_in (raw_in status.old.machine) (going_in status.old.machine)) (travel_of (going_in status.old.machine) journey) (record { drive = D.Drive.meaning drive.old; status = status_of status.old }) }
 {
     let passed = tick_in(&mut status.machine);
     let reading = pulse(drive, journey, passed.pulses);
-    settle(status, journey, reading, passed.ended);
+    if passed.ended {
+        settle(status, journey, reading, true);
+    } else {
+        follow(status, journey, reading);
+    }
 }
 
 // A braking tick.
 fn slow_down<D: Drive>(drive: &mut D, status: &mut Record, journey: Journey)
+    requires { status.old.work.state ≡ Braking journey }
     ensures { record { drive = D.Drive.meaning drive.new; status = status_of status.new } ≡ slow_step (braked_in (raw_in status.old.machine) (going_in status.old.machine)) (travel_of (going_in status.old.machine) journey) (record { drive = D.Drive.meaning drive.old; status = status_of status.old }) }
 {
     let passed = brake_in(&mut status.machine);
     let reading = pulse(drive, journey, passed.pulses);
-    settle_braking(status, journey, reading, passed.ended);
+    if passed.ended {
+        settle_braking(status, journey, reading, true);
+    } else {
+        follow(status, journey, reading);
+    }
 }
 
 impl<D: Drive> Axis<D> {

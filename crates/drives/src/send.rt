@@ -6,8 +6,9 @@ use crate::direction::Direction;
 use crate::drive::Drive;
 use crate::fault::Refusal;
 
-/// Sends so many pulses, and stops at the first that is refused.
-pub fn send<D: Drive>(drive: &mut D, direction: Direction, pulses: u64) -> Result<(), Refusal>
+// Sends so many pulses, and stops at the first that is refused.
+#[inline(always)]
+fn repeat<D: Drive>(drive: &mut D, direction: Direction, pulses: u64) -> Result<(), Refusal>
     ensures value { result ≡ told direction pulses (D.Drive.meaning drive.old) }
     ensures after { D.Drive.meaning drive.new ≡ sent direction pulses (D.Drive.meaning drive.old) }
     ensures reach { D.Drive.meaning drive.new ≡ at (reached direction pulses (D.Drive.meaning drive.old)) (D.Drive.meaning drive.old) }
@@ -16,4 +17,17 @@ pub fn send<D: Drive>(drive: &mut D, direction: Direction, pulses: u64) -> Resul
         drive.pulse(direction)?;
     }
     Ok(())
+}
+
+/// Sends so many pulses, and stops at the first that is refused.
+// One call for each way, so that the way is known inside the loop.
+pub fn send<D: Drive>(drive: &mut D, direction: Direction, pulses: u64) -> Result<(), Refusal>
+    ensures value { result ≡ told direction pulses (D.Drive.meaning drive.old) }
+    ensures after { D.Drive.meaning drive.new ≡ sent direction pulses (D.Drive.meaning drive.old) }
+    ensures reach { D.Drive.meaning drive.new ≡ at (reached direction pulses (D.Drive.meaning drive.old)) (D.Drive.meaning drive.old) }
+{
+    match direction {
+        Direction::Forward => repeat(drive, Direction::Forward, pulses),
+        Direction::Backward => repeat(drive, Direction::Backward, pulses),
+    }
 }

@@ -1,4 +1,4 @@
-ghost use Rattle.std.specs.Prelude.{◌≡◌, ◌-◌, ◌*◌, ◌^◌, ◌≤◌};
+ghost use Rattle.std.specs.Prelude.{◌≡◌, ◌-◌, ◌*◌, ◌^◌, ◌≤◌, ◌%◌};
 ghost use Rattle.motion.specs.Data.{Valid};
 ghost use Rattle.motion.specs.Ramp.{ramp_of};
 ghost use Rattle.motion.specs.Travel.{way};
@@ -28,6 +28,8 @@ pub struct Mover {
     // millionths of a pulse, of the whole move and left to run
     pub(crate) total: u128,
     pub(crate) left: u128,
+    // millionths of the pulse that is begun, so that no tick divides the way so far
+    pub(crate) begun: u32,
     // where the last tick was
     pub(crate) place: Place,
     // the machine is seen by its values alone, so what is true of them is said here
@@ -37,6 +39,7 @@ pub struct Mover {
     ghost steps: { place.step ≤ 4096 },
     ghost longest: { total ≤ 1000000 * 2 ^ 63 },
     ghost within: { left ≤ total },
+    ghost part: { begun ≡ (total - left) % 1000000 },
     ghost summed: { place.sum ≡ way (ramp_of machine) rate place.step },
     // braking from here never runs more than is left
     ghost safe: { way (ramp_of machine) rate (place.step - 1) ≤ left },

@@ -1,16 +1,28 @@
-ghost use Rattle.std.specs.Prelude.{◌≡◌, ◌≤◌, unsigned_abs};
+ghost use Rattle.std.specs.Prelude.{◌≡◌, ◌≤◌, ◌≤ℤ◌, pos, unsigned_abs};
+ghost use Rattle.std.specs.Int.{int_div_euclid};
 ghost use Rattle.motion.specs.Places.{rounded_of, held, pulses_by, nearest_by, rate_by};
 
 use crate::machine::MachineData;
+
+// The floor of a quotient. Nearly every number is narrow, and its division is much the faster.
+fn floored(number: i128, by: i64) -> i128
+    requires { pos 1 ≤ℤ by }
+    ensures { result ≡ int_div_euclid number by }
+{
+    match i64::try_from(number) {
+        Ok(number) => i128::from(number.div_euclid(by)),
+        Err(_) => number.div_euclid(i128::from(by)),
+    }
+}
 
 // z × k ÷ j to the nearest whole number, halves upward. The width holds every result.
 fn rounded(z: i64, k: u32, j: u32) -> i128
     requires { 1 ≤ j }
     ensures { result ≡ rounded_of z k j }
 {
-    let (z, k, j) = (i128::from(z), i128::from(k), i128::from(j));
     // half the divisor is added first, so that the quotient's floor is the nearest whole number
-    (z * (2 * k) + j).div_euclid(2 * j)
+    let sum = i128::from(z) * (2 * i128::from(k)) + i128::from(j);
+    floored(sum, 2 * i64::from(j))
 }
 
 // q, held between two coordinates.

@@ -1,4 +1,4 @@
-ghost use Rattle.std.specs.Prelude.{◌≡◌, ◌+◌, ◌-◌, ◌&&◌, nat_le};
+ghost use Rattle.std.specs.Prelude.{◌≡◌, ◌+◌, ◌-◌, ◌%◌, ◌&&◌, nat_le};
 ghost use Rattle.motion.specs.Ramp.{ramp_of};
 ghost use Rattle.motion.specs.Travel.{gain, in_ramp, ticked, braked, begun, idle, passed_in, passing};
 ghost use Rattle.motion.specs.Place.{Summed, PlaceRuns, left_after, run_at};
@@ -100,6 +100,24 @@ impl Mover {
         ((self.total - self.left) / 1_000_000) as u64
     }
 
+    // The pulses that a tick at a place sends, and the millionths of the next that it begins.
+    fn sent(&self, place: Option<Place>) -> (u64, u32)
+        requires { PlaceRuns (mover_ramp self.now) (going_of self.now) place }
+        ensures pulses { result.0 ≡ passed_in (run_at (mover_ramp self.now) (going_of self.now) place) - passed_in (going_of self.now) }
+        ensures begun { result.1 ≡ (self.now.total - (run_at (mover_ramp self.now) (going_of self.now) place).left) % 1000000 }
+    {
+        match place {
+            Some(place) => {
+                let run = self.begun + self.gain(place.step);
+                (u64::from(run / 1_000_000), run % 1_000_000)
+            }
+            None => {
+                let all = (self.total / 1_000_000) as u64;
+                (all - self.passed(), (self.total % 1_000_000) as u32)
+            }
+        }
+    }
+
     // A tick at a place; with none the move is complete.
     fn run(&mut self, place: Option<Place>) -> Passed
         requires { PlaceRuns (mover_ramp self.old) (going_of self.old) place }
@@ -108,11 +126,12 @@ impl Mover {
         ensures after { going_of self.new ≡ run_at (mover_ramp self.old) (going_of self.old) place }
         ensures value { result ≡ passing (going_of self.old) (going_of self.new) }
     {
-        let before = self.passed();
+        let (pulses, begun) = self.sent(place);
         self.left = self.left_after(place);
+        self.begun = begun;
         self.place = place.unwrap_or(Place::START);
         Passed {
-            pulses: self.passed() - before,
+            pulses,
             ended: self.place.step == 0,
         }
     }
@@ -141,6 +160,7 @@ impl Mover {
             rate: 1,
             total: 0,
             left: 0,
+            begun: 0,
             place: Place::START,
         }
     }
@@ -155,6 +175,7 @@ impl Mover {
         self.rate = rate.clamp(1, fastest) as u32;
         self.total = 1_000_000 * u128::from(distance.unsigned_abs());
         self.left = self.total;
+        self.begun = 0;
         self.place = Place::START;
     }
 

@@ -6,7 +6,7 @@ ghost use Rattle.states.specs.Effects.{fault_in};
 ghost use Rattle.states.specs.State.{with_work, held as held_with, between};
 ghost use Rattle.states.specs.View.{raw_in, going_in, course_in, course_if, travel_of, phase_of, status_of};
 ghost use Rattle.ticks.specs.Blocks.{done_with};
-ghost use Rattle.ticks.specs.Moving.{is_ahead, after_move, stopped_short, ran, slowed, fail_step};
+ghost use Rattle.ticks.specs.Moving.{at, placed, is_ahead, after_move, stopped_short, ran, slowed, fail_step};
 
 use drives::direction::Direction;
 use reader::ends_program;
@@ -87,6 +87,14 @@ fn stopped_short(journey: Journey) -> State
 
 // Whether the move is complete, or the axis stands, is what its tick answered. Two functions of each
 // would leave to every caller what is decided here once.
+
+/// After the pulses of a tick that did not end its move: where the axis is. What it is doing stays, and is
+/// not written again.
+pub fn follow(axis: &mut Record, journey: Journey, reading: Reading)
+    ensures { status_of axis.new ≡ with_work (at (placed (raw_in axis.old.machine) (travel_of (going_in axis.old.machine) journey) reading.count (status_of axis.old).work) (status_of axis.old).work.phase (status_of axis.old).work) (status_of axis.old) }
+{
+    axis.work.coordinate = axis.place(journey, reading);
+}
 
 /// After the pulses of a tick of motion: where the axis is, and whether the move is complete.
 pub fn settle(axis: &mut Record, journey: Journey, reading: Reading, complete: bool)

@@ -14,6 +14,7 @@ invariant_of-self c =
       steps = l.0;
       longest = m.longest;
       within = omega (arith, l.3, m.within, c.left_after-self.ensures);
+      part = rw c.left_after-self.ensures c.sent-pulses.ensures.begun;
       summed = l.1;
       safe = omega (arith, l.2, c.left_after-self.ensures);
     }

@@ -1,6 +1,6 @@
 use Rattle.std.proofs.Common.{◌≡◌, Ok}
 use Rattle.drives.specs.Sending.{sent, told}
-use Rattle.drives.proofs.send.send.Given as goal
+use Rattle.drives.proofs.send.repeat.Given as goal
 
 -- so far no pulse was refused
 abbrev pub invariant-loop-i : goal.invariant-loop-i

@@ -1,7 +1,7 @@
 use Rattle.std.proofs.Common.{sym, arith}
 use Rattle.std.proofs.lemmas.Result.{err_from_is_err_and}
 use Rattle.drives.proofs.Sends.{sent-more, told_more, refused-at, reach}
-use Rattle.drives.proofs.send.send.Goals as goal
+use Rattle.drives.proofs.send.repeat.Goals as goal
 
 pub returns-in_err-pulse : goal.returns-in_err-pulse
 returns-in_err-pulse g c =
