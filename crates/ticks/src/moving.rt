@@ -85,16 +85,17 @@ fn stopped_short(journey: Journey) -> State
 // Axis and reading go together here and in the taking of blocks. A struct of both would borrow the axis to
 // change it, and its contracts would speak of the axis before and after through that borrow.
 
-// Whether the move is complete, or the axis stands, is what its tick answered. Two functions of each
-// would leave to every caller what is decided here once.
-
 /// After the pulses of a tick that did not end its move: where the axis is. What it is doing stays, and is
 /// not written again.
 pub fn follow(axis: &mut Record, journey: Journey, reading: Reading)
     ensures { status_of axis.new ≡ with_work (at (placed (raw_in axis.old.machine) (travel_of (going_in axis.old.machine) journey) reading.count (status_of axis.old).work) (status_of axis.old).work.phase (status_of axis.old).work) (status_of axis.old) }
 {
-    axis.work.coordinate = axis.place(journey, reading);
+    let here = axis.place(journey, reading);
+    axis.work.coordinate = here;
 }
+
+// Whether the move is complete, or the axis stands, is what its tick answered. Two functions of each
+// would leave to every caller what is decided here once.
 
 /// After the pulses of a tick of motion: where the axis is, and whether the move is complete.
 pub fn settle(axis: &mut Record, journey: Journey, reading: Reading, complete: bool)
