@@ -1,0 +1,246 @@
+use crate::data::Data;
+use crate::samples::{AXIS_A, turned};
+use crate::sides::{Build, Sides};
+use crate::stage::Stage;
+use crate::whole::Whole;
+use anyhow::anyhow;
+use axis::Levels;
+use drives::clock_stage::ClockStage;
+use drives::take_up::TakeUp;
+use module::{Act, Call};
+use motion::RawData;
+use states::{Command, Order, Switches};
+
+/// One axis of both sides, which works an example step by step.
+#[derive(Drop)]
+struct Bench<'a> {
+    rt: &'a HostRuntime,
+    sides: Sides<'a>,
+    axis: u8,
+}
+
+// Beside a carriage on its motor and one with a play of 3.
+const BUILD: Build = Build {
+    motors: [0, 0, 0],
+    play: 3,
+    plays: [0, 0],
+};
+
+fn start(mode: u8, word: u16, double: i32) -> Act {
+    given(mode, Command::Start, word, double)
+}
+
+fn given(mode: u8, command: Command, word: u16, double: i32) -> Act {
+    Act::Order(Order {
+        mode,
+        command,
+        byte: 0,
+        word,
+        double,
+    })
+}
+
+impl<'a> Bench<'a> {
+    /// A new module, its drive ready, with these data and a reference.
+    fn new(rt: &'a HostRuntime, axis: u8, raw: RawData) -> anyhow::Result<Bench<'a>> {
+        let mut bench = Bench {
+            rt,
+            sides: Sides::new(rt, BUILD)?,
+            axis,
+        };
+        let levels = Levels {
+            switches: Switches::default(),
+            ready: true,
+        };
+        bench.done(Act::Level(levels))?;
+        bench.done(Act::Enter(raw))?;
+        bench.done(start(5, 0, 0))?;
+        Ok(bench)
+    }
+
+    fn done(&mut self, act: Act) -> anyhow::Result<(Whole, Whole, Whole)> {
+        let axis = self.axis;
+        let answers = self.sides.make(&Call::OnAxis { axis, act })?;
+        if answers.reply.is_err() {
+            return Err(anyhow!("an example's call is refused"));
+        }
+        let [first, second, _] = answers.sights;
+        let [count, layer, _] = answers.counts;
+        let [_, motor, _] = answers.motors;
+        match axis {
+            1 => Ok((first.coordinate, count, count)),
+            _ => Ok((second.coordinate, layer, motor)),
+        }
+    }
+
+    /// The coordinate and the counts of carriage and motor after a call.
+    fn step(&mut self, act: Act, coordinate: i128, count: i128, motor: i128) -> anyhow::Result<()> {
+        let after = self.done(act)?;
+        if after != (Whole(coordinate), Whole(count), Whole(motor)) {
+            return Err(anyhow!("an example comes out otherwise"));
+        }
+        print!(self.rt; " {coordinate}/{count}/{motor}")?;
+        Ok(())
+    }
+
+    fn ticks(&mut self, after: &[(i128, i128)]) -> anyhow::Result<()> {
+        for (coordinate, count) in after {
+            self.step(Act::Tick, *coordinate, *count, *count)?;
+        }
+        Ok(())
+    }
+
+    /// A move of at most four pulses, to its end.
+    fn moves(&mut self, order: Act, coordinate: i128, count: i128, motor: i128) -> anyhow::Result<()> {
+        self.done(order)?;
+        for _ in 0..4u32 {
+            self.done(Act::Tick)?;
+        }
+        self.step(Act::Tick, coordinate, count, motor)
+    }
+}
+
+/// Every worked example, with what it comes out at.
+pub fn work(rt: &HostRuntime) -> anyhow::Result<()> {
+    ramp(rt)?;
+    one_move(rt)?;
+    stopped(rt)?;
+    places(rt)?;
+    nearest(rt)?;
+    play(rt)?;
+    feedback(rt)?;
+    limit(rt)?;
+    not_made(rt)
+}
+
+fn ramp(rt: &HostRuntime) -> anyhow::Result<()> {
+    let data = Data::checked(AXIS_A).map_err(|_| anyhow!("the data of axis A are refused"))?;
+    let steps = [1_000_000, 2_000_000, 2_525_000, 2_800_625, 2_945_328, 3_000_000];
+    print!(rt; "ramp")?;
+    for (i, frequency) in (1u32..).zip(steps) {
+        if data.run_up(data.greatest_rate(), i).0 != Whole(frequency) {
+            return Err(anyhow!("the ramp comes out otherwise"));
+        }
+        print!(rt; " {frequency}")?;
+    }
+    println!(rt; "")?;
+    Ok(())
+}
+
+fn one_move(rt: &HostRuntime) -> anyhow::Result<()> {
+    print!(rt; "0 to 100")?;
+    let mut bench = Bench::new(rt, 1, AXIS_A)?;
+    bench.done(start(6, 1_800, 100))?;
+    bench.ticks(&[(10, 1), (30, 3), (50, 5), (70, 7), (80, 8), (90, 9), (100, 10)])?;
+    println!(rt; "")?;
+    Ok(())
+}
+
+fn stopped(rt: &HostRuntime) -> anyhow::Result<()> {
+    print!(rt; "stopped")?;
+    let mut bench = Bench::new(rt, 1, AXIS_A)?;
+    bench.done(start(6, 1_800, 100))?;
+    bench.ticks(&[(10, 1), (30, 3), (50, 5)])?;
+    bench.done(given(6, Command::Stop, 0, 0))?;
+    bench.ticks(&[(70, 7), (80, 8), (80, 8), (80, 8)])?;
+    println!(rt; "")?;
+    Ok(())
+}
+
+fn places(rt: &HostRuntime) -> anyhow::Result<()> {
+    print!(rt; "three moves by 5")?;
+    let mut bench = Bench::new(rt, 1, turned(1_000, 300))?;
+    for (coordinate, count) in [(5, 2), (10, 3), (15, 5)] {
+        bench.moves(given(7, Command::Forward, 60, 5), coordinate, count, count)?;
+    }
+    println!(rt; "")?;
+    print!(rt; "pulses of 5, 4, -5")?;
+    for (place, count) in [(5i32, 1), (4, 0), (-5, 0)] {
+        let mut bench = Bench::new(rt, 1, turned(10, 1))?;
+        bench.moves(start(6, 60, place), i128::from(place), count, count)?;
+    }
+    println!(rt; "")?;
+    Ok(())
+}
+
+fn nearest(rt: &HostRuntime) -> anyhow::Result<()> {
+    print!(rt; "unit nearest to 5, -5")?;
+    for (target, unit, count) in [(30, 2, 5), (-30, -1, -5)] {
+        let mut bench = Bench::new(rt, 1, turned(3, 10))?;
+        bench.done(start(6, 54, target))?;
+        bench.done(Act::Tick)?;
+        bench.done(Act::Tick)?;
+        bench.step(Act::Tick, unit, count, count)?;
+    }
+    println!(rt; "")?;
+    Ok(())
+}
+
+fn play(rt: &HostRuntime) -> anyhow::Result<()> {
+    print!(rt; "play 3")?;
+    let mut bench = Bench::new(rt, 2, turned(1, 1))?;
+    let forward = given(7, Command::Forward, 60, 1);
+    let backward = given(7, Command::Backward, 60, 1);
+    bench.moves(forward, 1, 1, 1)?;
+    bench.moves(forward, 2, 2, 2)?;
+    bench.moves(backward, 1, 1, -2)?;
+    bench.moves(forward, 2, 2, 2)?;
+    println!(rt; "")?;
+    Ok(())
+}
+
+fn feedback(rt: &HostRuntime) -> anyhow::Result<()> {
+    print!(rt; "feedback")?;
+    let mut sides = Sides::new(rt, BUILD)?;
+    let steps = [
+        (Act::Observe, 0xE0u8),
+        (Act::Enter(AXIS_A), 0xA2),
+        (start(5, 0, 0), 0x8E),
+    ];
+    for (act, byte) in steps {
+        let [first, _, _] = sides.make(&Call::OnAxis { axis: 1, act })?.sights;
+        if first.feedback != byte {
+            return Err(anyhow!("the feedback byte comes out otherwise"));
+        }
+        print!(rt; " {byte:02X}")?;
+    }
+    println!(rt; "")?;
+    Ok(())
+}
+
+fn limit(rt: &HostRuntime) -> anyhow::Result<()> {
+    let mut bench = Bench::new(rt, 1, AXIS_A)?;
+    let beyond = Call::OnAxis {
+        axis: 1,
+        act: start(6, 1_800, 200_001),
+    };
+    match bench.sides.make(&beyond)?.reply {
+        Err(trouble) if trouble.number == 19 => {}
+        _ => return Err(anyhow!("a target above the limit is not refused with 19")),
+    }
+    bench.done(start(6, 1_800, 200_000))?;
+    println!(rt; "limit 200001 refused with 19, 200000 accepted")?;
+    Ok(())
+}
+
+// Fault 2: a stage outside its ends, a layer without room for its play.
+fn not_made(rt: &HostRuntime) -> anyhow::Result<()> {
+    print!(rt; "fault 2")?;
+    let least = -1_000_000_000_000;
+    for (motor, play) in [(0, 3u16), (least, 0), (least, 1), (least + 3, 3), (least + 2, 3), (least - 1, 0), (1_000_000_000_001, 0)] {
+        let made = match ClockStage::new(motor) {
+            Ok(stage) => match TakeUp::new(stage, play) {
+                Ok(_) => 0,
+                Err(refused) => refused.fault.number(),
+            },
+            Err(fault) => fault.number(),
+        };
+        let plain = if Stage::new(motor, &[play]).is_some() { 0 } else { 2 };
+        if made != plain {
+            return Err(anyhow!("a drive is made otherwise"));
+        }
+        print!(rt; " {motor}/{play}:{made}")?;
+    }
+    println!(rt; "")?;
+    Ok(())
+}
