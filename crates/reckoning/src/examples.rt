@@ -90,10 +90,10 @@ impl<'a> Bench<'a> {
         Ok(())
     }
 
-    /// A move of at most four pulses, to its end.
+    /// A short move, to its end.
     fn moves(&mut self, order: Act, coordinate: i128, count: i128, motor: i128) -> anyhow::Result<()> {
         self.done(order)?;
-        for _ in 0..4u32 {
+        for _ in 0..12u32 {
             self.done(Act::Tick)?;
         }
         self.step(Act::Tick, coordinate, count, motor)

@@ -25,7 +25,7 @@ use crate::examples::work;
 use crate::script::Script;
 use crate::sides::{Build, Sides};
 
-const CALLS: u32 = 2_000;
+const CALLS: u32 = 500_000;
 
 // Near the ends of a drive, at zero, with wide plays and none.
 const BUILDS: [Build; 4] = [
