@@ -5,6 +5,7 @@ use crate::whole::{Whole, ZERO};
 use units::Measure;
 
 const LONGEST: usize = 80;
+
 pub const MOST_BLOCKS: usize = 64;
 
 /// What the words of a line choose.

@@ -4,6 +4,7 @@ use motion::RawData;
 use units::Measure;
 
 pub const REACH: Whole = Whole(40_000_000);
+
 const MOST_STEPS: u32 = 4096;
 
 /// The machine data of an axis.

@@ -14,10 +14,15 @@ static MEASURES: [Measure; 6] = [
 ];
 
 static MOTIONS: [&'static [u8]; 4] = [b"G00", b"G01", b"G01", b"G01F60"];
+
 static OFFSETS: [&'static [u8]; 5] = [b"G53", b"G54", b"G55", b"G56", b"G57"];
+
 static WAYS: [&'static [u8]; 2] = [b"G90", b"G91"];
+
 static FEEDS: [&'static [u8]; 5] = [b"F60", b"F1", b"F6", b"F1800", b"F65000"];
+
 static AUXILIARIES: [&'static [u8]; 5] = [b"M00", b"M00", b"M05", b"M99", b"M03"];
+
 static ENDS: [&'static [u8]; 2] = [b"M02", b"M30"];
 
 /// A program line put together from words.

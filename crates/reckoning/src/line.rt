@@ -41,7 +41,11 @@ impl Word {
             }
             b'0'..=b'9' => {
                 self.digits = self.digits * Whole(10) + Whole::of(byte) - Whole(48);
-                let digits = if self.point { &mut self.decimals } else { &mut self.whole };
+                let digits = if self.point {
+                    &mut self.decimals
+                } else {
+                    &mut self.whole
+                };
                 *digits = digits.saturating_add(1);
             }
             _ => self.broken = true,

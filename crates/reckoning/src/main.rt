@@ -17,6 +17,7 @@ mod shelf;
 mod shown;
 mod sides;
 mod stage;
+mod tally;
 mod trouble;
 mod whole;
 
@@ -24,31 +25,20 @@ use crate::chance::Chance;
 use crate::examples::work;
 use crate::script::Script;
 use crate::sides::{Build, Sides};
+use crate::tally::Tally;
 
-const CALLS: u32 = 500_000;
+const CALLS: u32 = 10_000;
 
 // Near the ends of a drive, at zero, with wide plays and none.
-const BUILDS: [Build; 4] = [
-    Build {
-        motors: [0, 0, 999_999_999_950],
-        play: 3,
-        plays: [2, 7],
-    },
-    Build {
-        motors: [-999_999_999_960, 7, 12],
-        play: 65_535,
-        plays: [0, 300],
-    },
-    Build {
-        motors: [5, -999_999_999_900, -999_999_999_000],
-        play: 3,
-        plays: [400, 550],
-    },
-    Build {
-        motors: [1_000_000_000_000, 999_999_999_990, 0],
-        play: 0,
-        plays: [1, 0],
-    },
+const BUILDS: [([i64; 3], u16, [u16; 2]); 8] = [
+    ([0, 0, 999_999_999_950], 3, [2, 7]),
+    ([-999_999_999_960, 7, 12], 65_535, [0, 300]),
+    ([5, -999_999_999_900, -999_999_999_000], 3, [400, 550]),
+    ([1_000_000_000_000, 999_999_999_990, 0], 0, [1, 0]),
+    ([0, 100, 999_999_999_999], 3, [3, 3]),
+    ([-1_000_000_000_000, 0, -3], 3, [65_535, 65_535]),
+    ([-40, -999_999_999_997, -999_999_999_880], 3, [20, 100]),
+    ([77, 999_999_999_980, 0], 1, [1, 1]),
 ];
 
 fn main(rt: HostRuntime) -> anyhow::Result<()> {
@@ -56,27 +46,24 @@ fn main(rt: HostRuntime) -> anyhow::Result<()> {
 }
 
 fn run(rt: &HostRuntime) -> anyhow::Result<()> {
-    work(rt)?;
-    let mut seen = [0u32; 40];
-    let mut seed = 0u64;
+    let mut tally = Tally::new();
+    tally.count_fault(2, work(rt)?);
     println!(rt; "run  calls  differences")?;
-    for build in BUILDS.iter().chain(BUILDS.iter()) {
-        seed = seed.wrapping_add(1);
+    for (seed, (motors, play, plays)) in (1u32..).zip(BUILDS) {
+        let build = Build {
+            motors,
+            play,
+            plays,
+        };
         let mut script = Script {
-            chance: Chance::new(seed),
-            sides: Sides::new(rt, *build)?,
+            chance: Chance::new(u64::from(seed)),
+            sides: Sides::new(rt, build)?,
             calls: CALLS,
         };
         script.run()?;
         let calls = script.sides.calls;
         println!(rt; "{seed:>3} {calls:>6} {:>12}", 0)?;
-        for (sum, more) in seen.iter_mut().zip(script.sides.seen) {
-            *sum = sum.saturating_add(more);
-        }
+        tally.add(&script.sides.tally);
     }
-    println!(rt; "fault  seen")?;
-    for (number, seen) in seen.iter().enumerate() {
-        println!(rt; "{number:>5} {seen:>5}")?;
-    }
-    Ok(())
+    tally.print(rt)
 }

@@ -1,5 +1,6 @@
 use crate::block::{Choices, OPENING};
 use crate::data::Data;
+use crate::plant::Course;
 use crate::stage::Stage;
 use crate::trouble::{Trouble, require};
 use crate::whole::{MILLION, Whole, ZERO};
@@ -96,12 +97,16 @@ impl Axis {
         }
     }
 
-    pub fn runs(&self) -> bool {
-        self.running.is_some_and(|running| !running.held)
+    pub fn course(&self) -> Course {
+        match self.running {
+            None => Course::Idle,
+            Some(running) if running.held => Course::Held,
+            Some(_) => Course::Runs,
+        }
     }
 
     pub fn stands(&self) -> bool {
-        self.travel.is_none() && !self.runs()
+        self.travel.is_none() && self.course() != Course::Runs
     }
 
     pub fn uses(&self, program: u8) -> bool {
@@ -186,7 +191,11 @@ impl Axis {
             .map_or(ZERO, |travel| travel.goal.target - self.coordinate);
         Sight {
             mode: self.mode,
-            auxiliary: if matches!(self.mode, 8 | 9) { self.auxiliary } else { 2 },
+            auxiliary: if matches!(self.mode, 8 | 9) {
+                self.auxiliary
+            } else {
+                2
+            },
             coordinate: self.coordinate,
             shift,
             actual: self.coordinate - shift,

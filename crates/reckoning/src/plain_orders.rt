@@ -1,5 +1,5 @@
-use crate::plain_axis::{Axis, Goal};
 use crate::data::{Data, REACH, in_reach};
+use crate::plain_axis::{Axis, Goal};
 use crate::shelf::Shelf;
 use crate::trouble::{Trouble, require};
 use crate::whole::{Whole, ZERO};

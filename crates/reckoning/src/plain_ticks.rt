@@ -1,6 +1,6 @@
-use crate::plain_axis::{Axis, Goal, Running, Travel};
 use crate::block::Block;
 use crate::data::{Data, whole_pulses};
+use crate::plain_axis::{Axis, Goal, Running, Travel};
 use crate::shelf::Shelf;
 use crate::trouble::{Trouble, require};
 use crate::whole::{MILLION, Whole, ZERO};

@@ -8,6 +8,14 @@ use states::{Command, Order};
 /// What a call is answered: done, a sight of an axis, or a fault.
 pub type Reply = Result<Option<Sight>, Trouble>;
 
+/// Whether an axis has a program.
+#[derive(Clone, Copy, PartialEq, Eq, Debug)]
+pub enum Course {
+    Idle,
+    Runs,
+    Held,
+}
+
 /// The whole module by the rules.
 #[derive(Drop)]
 pub struct Plant {
@@ -18,7 +26,11 @@ pub struct Plant {
 impl Plant {
     pub fn new(first: Stage, second: Stage, third: Stage) -> Plant {
         Plant {
-            axes: [Axis::new(1, first), Axis::new(2, second), Axis::new(3, third)],
+            axes: [
+                Axis::new(1, first),
+                Axis::new(2, second),
+                Axis::new(3, third),
+            ],
             shelf: Shelf::new(),
         }
     }
@@ -36,6 +48,11 @@ impl Plant {
             (_, Ok(())) => Ok(None),
             (program, Err(number)) => Err(Trouble::of_program(number, program)),
         }
+    }
+
+    pub fn courses(&self) -> [Course; 3] {
+        let [first, second, third] = &self.axes;
+        [first.course(), second.course(), third.course()]
     }
 
     fn delete_program(&mut self, number: u8) -> Result<(), u8> {
@@ -77,12 +94,14 @@ impl Plant {
 // The program that the place of a refused order names.
 fn program_of(act: Act) -> u8 {
     match act {
-        Act::Order(Order {
-            mode: 8 | 9,
-            command: Command::Start,
-            byte,
-            ..
-        }) => byte,
+        Act::Order(
+            Order {
+                mode: 8 | 9,
+                command: Command::Start,
+                byte,
+                ..
+            },
+        ) => byte,
         _ => 0,
     }
 }

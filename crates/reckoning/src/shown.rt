@@ -42,8 +42,14 @@ impl fmt::Display for ShownAct {
                     measure,
                     ..
                 } = raw;
-                write!(f, "data {measure:?} fm {fm} fs {fs} a {increase} W {units} P {pulses}")?;
-                write!(f, " low {low} high {high} reference {reference} offsets {offsets:?}")
+                write!(
+                    f,
+                    "data {measure:?} fm {fm} fs {fs} a {increase} W {units} P {pulses}"
+                )?;
+                write!(
+                    f,
+                    " low {low} high {high} reference {reference} offsets {offsets:?}"
+                )
             }
             Act::Delete => f.write_str("data deleted"),
             Act::Order(order) => write!(f, "{order:?}"),

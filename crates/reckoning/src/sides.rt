@@ -2,6 +2,7 @@ use crate::plain_axis::Sight;
 use crate::plant::{Plant, Reply};
 use crate::shown::Shown;
 use crate::stage::Stage;
+use crate::tally::Tally;
 use crate::trouble::Trouble;
 use crate::whole::Whole;
 use anyhow::anyhow;
@@ -12,6 +13,7 @@ use module::{Answer, Call, Drives, Module};
 use states::Observation;
 
 type Screw = TakeUp<ClockStage>;
+
 type Screws = TakeUp<TakeUp<ClockStage>>;
 
 /// Where the motors of the three drives stand when they are made, and the plays above the second and the third.
@@ -39,8 +41,7 @@ pub struct Sides<'a> {
     core: Module<ClockStage, Screw, Screws>,
     plant: Plant,
     pub calls: u32,
-    /// how often each fault number was answered
-    pub seen: [u32; 40],
+    pub tally: Tally,
 }
 
 impl<'a> Sides<'a> {
@@ -54,13 +55,14 @@ impl<'a> Sides<'a> {
             core,
             plant: plain_drives(build)?,
             calls: 0,
-            seen: [0; 40],
+            tally: Tally::new(),
         })
     }
 
     /// Makes a call on both sides; an error where they differ.
     pub fn make(&mut self, call: &Call) -> anyhow::Result<Answers> {
         self.calls = self.calls.saturating_add(1);
+        let before = self.plant.courses();
         let core = self.ask_core(call);
         let plain = self.ask_plain(call);
         if core != plain {
@@ -69,10 +71,9 @@ impl<'a> Sides<'a> {
             println!(self.rt; "call {calls}: {shown}\nmodule: {core:?}\nsecond: {plain:?}")?;
             return Err(anyhow!("the two sides differ"));
         }
-        if let Err(trouble) = core.reply
-            && let Some(seen) = self.seen.get_mut(usize::from(trouble.number))
-        {
-            *seen = seen.saturating_add(1);
+        self.tally.count(call, core.reply);
+        for (before, after) in before.iter().zip(self.plant.courses()) {
+            self.tally.count_course(*before, after);
         }
         Ok(core)
     }
@@ -113,7 +114,11 @@ impl<'a> Sides<'a> {
             reply,
             sights: [first.sight(), second.sight(), third.sight()],
             counts: [first.drive.count, second.drive.count, third.drive.count],
-            motors: [first.drive.motor(), second.drive.motor(), third.drive.motor()],
+            motors: [
+                first.drive.motor(),
+                second.drive.motor(),
+                third.drive.motor(),
+            ],
         }
     }
 }

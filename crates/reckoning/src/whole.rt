@@ -5,6 +5,7 @@ use std::ops::{Add, Mul, Sub};
 pub struct Whole(pub i128);
 
 pub const ZERO: Whole = Whole(0);
+
 pub const MILLION: Whole = Whole(1_000_000);
 
 impl Add for Whole {
