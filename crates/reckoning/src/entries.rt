@@ -1,17 +1,8 @@
 use crate::chance::Chance;
-use crate::samples::LINES;
+use crate::samples::{LINES, MEASURES};
 use crate::script::Script;
 use module::Call;
 use units::Measure;
-
-static MEASURES: [Measure; 6] = [
-    Measure::Millimetre,
-    Measure::Millimetre,
-    Measure::Millimetre,
-    Measure::Millimetre,
-    Measure::Inch,
-    Measure::Degree,
-];
 
 static MOTIONS: [&'static [u8]; 4] = [b"G00", b"G01", b"G01", b"G01F60"];
 

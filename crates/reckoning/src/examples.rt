@@ -2,6 +2,7 @@ use crate::data::Data;
 use crate::samples::{AXIS_A, turned};
 use crate::sides::{Build, Sides};
 use crate::stage::Stage;
+use crate::tally::Tally;
 use crate::whole::Whole;
 use anyhow::anyhow;
 use axis::Levels;
@@ -45,7 +46,7 @@ impl<'a> Bench<'a> {
     fn new(rt: &'a HostRuntime, axis: u8, raw: RawData) -> anyhow::Result<Bench<'a>> {
         let mut bench = Bench {
             rt,
-            sides: Sides::new(rt, BUILD)?,
+            sides: Sides::new(rt, BUILD, Tally::new())?,
             axis,
         };
         let levels = Levels {
@@ -106,17 +107,16 @@ impl<'a> Bench<'a> {
     }
 }
 
-/// Every worked example, with what it comes out at; how many drives fault 2 refused.
-pub fn work(rt: &HostRuntime) -> anyhow::Result<u32> {
+/// Every worked example, with what it comes out at.
+pub fn work(rt: &HostRuntime, tally: &mut Tally) -> anyhow::Result<()> {
     ramp(rt)?;
-    one_move(rt)?;
-    stopped(rt)?;
+    moves(rt)?;
     places(rt)?;
     nearest(rt)?;
     play(rt)?;
     feedback(rt)?;
     limit(rt)?;
-    not_made(rt)
+    not_made(rt, tally)
 }
 
 fn ramp(rt: &HostRuntime) -> anyhow::Result<()> {
@@ -135,28 +135,17 @@ fn ramp(rt: &HostRuntime) -> anyhow::Result<()> {
     Ok(())
 }
 
-fn one_move(rt: &HostRuntime) -> anyhow::Result<()> {
+fn moves(rt: &HostRuntime) -> anyhow::Result<()> {
     print!(rt; "0 to 100")?;
     let mut bench = Bench::new(rt, 1, AXIS_A)?;
     bench.done(start(6, 1_800, 100))?;
-    bench.ticks(&[
-        (10, 1),
-        (30, 3),
-        (50, 5),
-        (70, 7),
-        (80, 8),
-        (90, 9),
-        (100, 10),
-    ])?;
-    println!(rt; "")?;
-    Ok(())
-}
-
-fn stopped(rt: &HostRuntime) -> anyhow::Result<()> {
-    print!(rt; "stopped")?;
+    let begun = [(10, 1), (30, 3), (50, 5)];
+    bench.ticks(&begun)?;
+    bench.ticks(&[(70, 7), (80, 8), (90, 9), (100, 10)])?;
+    print!(rt; "\nstopped")?;
     let mut bench = Bench::new(rt, 1, AXIS_A)?;
     bench.done(start(6, 1_800, 100))?;
-    bench.ticks(&[(10, 1), (30, 3), (50, 5)])?;
+    bench.ticks(&begun)?;
     bench.done(given(6, Command::Stop, 0, 0))?;
     bench.ticks(&[(70, 7), (80, 8), (80, 8), (80, 8)])?;
     println!(rt; "")?;
@@ -207,7 +196,7 @@ fn play(rt: &HostRuntime) -> anyhow::Result<()> {
 
 fn feedback(rt: &HostRuntime) -> anyhow::Result<()> {
     print!(rt; "feedback")?;
-    let mut sides = Sides::new(rt, BUILD)?;
+    let mut sides = Sides::new(rt, BUILD, Tally::new())?;
     let steps = [
         (Act::Observe, 0xE0u8),
         (Act::Enter(AXIS_A), 0xA2),
@@ -240,31 +229,29 @@ fn limit(rt: &HostRuntime) -> anyhow::Result<()> {
 }
 
 // The drives that fault 2 refuses: a stage outside its ends, a layer without room for its play.
-fn not_made(rt: &HostRuntime) -> anyhow::Result<u32> {
+fn not_made(rt: &HostRuntime, tally: &mut Tally) -> anyhow::Result<()> {
     print!(rt; "drives not made")?;
     let least = -1_000_000_000_000;
-    let cases = [
-        (0, 3u16),
+    let most = 1_000_000_000_000;
+    let low = [
         (least, 0),
         (least, 1),
         (least + 3, 3),
         (least + 2, 3),
         (least - 1, 0),
-        (1_000_000_000_000, 65_535),
-        (1_000_000_000_001, 0),
     ];
-    let mut refused = 0u32;
-    for (motor, play) in cases {
-        if making(motor, play) != Stage::new(motor, &[play]).map_or(2, |_| 0) {
+    for (motor, play) in low.iter().chain(&[(0, 3), (most, 65_535), (most + 1, 0)]) {
+        let number = making(*motor, *play);
+        if number != Stage::new(*motor, &[*play]).map_or(2, |_| 0) {
             return Err(anyhow!("a drive is made otherwise"));
         }
-        if making(motor, play) == 2 {
+        if number == 2 {
             print!(rt; " {motor}/{play}")?;
-            refused = refused.saturating_add(1);
+            tally.count_fault(2);
         }
     }
     println!(rt; "")?;
-    Ok(refused)
+    Ok(())
 }
 
 // The fault number of a layer over a stage, 0 where it is made.

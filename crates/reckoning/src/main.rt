@@ -47,7 +47,7 @@ fn main(rt: HostRuntime) -> anyhow::Result<()> {
 
 fn run(rt: &HostRuntime) -> anyhow::Result<()> {
     let mut tally = Tally::new();
-    tally.count_fault(2, work(rt)?);
+    work(rt, &mut tally)?;
     println!(rt; "run  calls  differences")?;
     for (seed, (motors, play, plays)) in (1u32..).zip(BUILDS) {
         let build = Build {
@@ -57,13 +57,13 @@ fn run(rt: &HostRuntime) -> anyhow::Result<()> {
         };
         let mut script = Script {
             chance: Chance::new(u64::from(seed)),
-            sides: Sides::new(rt, build)?,
+            sides: Sides::new(rt, build, tally)?,
             calls: CALLS,
         };
         script.run()?;
         let calls = script.sides.calls;
         println!(rt; "{seed:>3} {calls:>6} {:>12}", 0)?;
-        tally.add(&script.sides.tally);
+        tally = script.sides.tally;
     }
     tally.print(rt)
 }

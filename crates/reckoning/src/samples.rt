@@ -19,7 +19,7 @@ pub const AXIS_A: RawData = RawData {
 };
 
 /// Axis A with another turn.
-pub const fn turned(units: u32, pulses: u32) -> RawData {
+pub fn turned(units: u32, pulses: u32) -> RawData {
     RawData {
         units,
         pulses,
@@ -27,149 +27,107 @@ pub const fn turned(units: u32, pulses: u32) -> RawData {
     }
 }
 
-/// Machine data with many units or many pulses, a flat ramp, a long one, narrow limits.
-pub static DATA: [RawData; 8] = [
-    AXIS_A,
-    AXIS_A,
-    RawData {
-        measure: Measure::Degree,
-        units: 10,
-        pulses: 1,
-        reference: 5,
-        ..AXIS_A
-    },
-    RawData {
-        fm: 20_000_000,
-        fs: 5_000_000,
-        increase: 2_000_000,
-        units: 3,
-        pulses: 10,
-        low: -40_000_000,
-        high: 40_000_000,
-        reference: -7,
-        ..AXIS_A
-    },
-    RawData {
-        measure: Measure::Inch,
-        fm: 40_000,
-        fs: 40_000,
-        units: 1_000_000,
-        pulses: 1,
-        reference: -999,
-        ..AXIS_A
-    },
-    RawData {
-        fm: 100_000_000,
-        fs: 10_000_000,
-        increase: 2_599_999,
-        units: 1_000,
-        pulses: 10_000,
-        low: -3,
-        high: 120,
-        ..AXIS_A
-    },
-    RawData {
-        measure: Measure::Inch,
-        fs: 1_000,
-        fm: 1_000_000,
-        increase: 1_000,
-        units: 7,
-        pulses: 3,
-        ..AXIS_A
-    },
-    RawData {
-        fs: 39_000,
-        increase: 100_000,
-        units: 1_000,
-        pulses: 300,
-        reference: 33,
-        ..AXIS_A
-    },
+/// fm, fs, a, W, P, low, high, reference.
+type Row = [i32; 8];
+
+pub const FIRST_ROW: Row = [
+    3_000_000, 1_000_000, 1_000_000, 4_000, 400, -1_000, 200_000, 0,
 ];
 
-/// Machine data that 4 or 5 refuses.
-pub static REFUSED: [RawData; 10] = [
-    RawData {
-        fm: 39_999,
-        fs: 1_000,
-        ..AXIS_A
-    },
-    RawData {
-        fs: 3_000_001,
-        ..AXIS_A
-    },
-    RawData {
-        increase: 2_600_000,
-        ..AXIS_A
-    },
-    RawData {
-        increase: 20,
-        ..AXIS_A
-    },
-    RawData {
-        low: 200_000,
-        ..AXIS_A
-    },
-    RawData {
-        reference: -1_001,
-        ..AXIS_A
-    },
-    RawData { units: 0, ..AXIS_A },
-    RawData {
-        pulses: 10_001,
-        ..AXIS_A
-    },
-    RawData {
-        offsets: [0, 0, 0, 40_000_001],
-        ..AXIS_A
-    },
-    RawData {
-        duration: 32,
-        patterns: 3,
-        ..AXIS_A
-    },
+/// Many units or many pulses, a flat ramp, a long one, narrow limits and wide ones.
+pub static ROWS: [Row; 8] = [
+    FIRST_ROW,
+    [3_000_000, 1_000_000, 1_000_000, 10, 1, -1_000, 200_000, 5],
+    [
+        20_000_000,
+        5_000_000,
+        2_000_000,
+        3,
+        10,
+        -40_000_000,
+        40_000_000,
+        -7,
+    ],
+    [40_000, 40_000, 20, 1_000_000, 1, -1_000, 2_000, -999],
+    [
+        100_000_000,
+        10_000_000,
+        2_599_999,
+        1_000,
+        10_000,
+        -3,
+        120,
+        0,
+    ],
+    [1_000_000, 1_000, 1_000, 7, 3, -1_000, 200_000, 0],
+    [3_000_000, 39_000, 100_000, 1_000, 300, -1_000, 200_000, 33],
+    [3_000_000, 1_000_000, 1_000_000, 1, 1, 0, 40, 20],
 ];
 
-/// Orders that a mode admits, the more useful ones more often.
-pub static ORDERS: [(u8, Command); 38] = [
-    (1, Command::Forward),
-    (1, Command::Backward),
-    (2, Command::Forward),
-    (2, Command::Backward),
-    (1, Command::Stop),
-    (4, Command::Start),
-    (5, Command::Start),
-    (5, Command::Start),
-    (5, Command::Start),
-    (6, Command::Start),
-    (6, Command::Start),
-    (6, Command::Start),
-    (6, Command::Start),
-    (6, Command::Stop),
-    (7, Command::Forward),
-    (7, Command::Forward),
-    (7, Command::Backward),
-    (7, Command::Backward),
-    (7, Command::Stop),
-    (8, Command::Start),
-    (8, Command::Start),
-    (8, Command::Start),
-    (9, Command::Start),
-    (9, Command::Start),
-    (9, Command::Start),
-    (8, Command::Stop),
-    (9, Command::Stop),
-    (8, Command::TakeOver),
-    (8, Command::TakeOver),
-    (9, Command::TakeOver),
-    (9, Command::TakeOver),
-    (12, Command::Start),
-    (13, Command::Start),
-    (14, Command::Start),
-    (15, Command::Start),
-    (16, Command::Start),
-    (17, Command::Start),
-    (17, Command::Start),
+/// What 4 or 5 refuses.
+pub static REFUSED: [Row; 10] = [
+    [39_999, 1_000, 1_000, 4_000, 400, 0, 1, 0],
+    [3_000_000, 3_000_001, 1_000, 4_000, 400, 0, 1, 0],
+    [3_000_000, 1_000_000, 2_600_000, 4_000, 400, 0, 1, 0],
+    [3_000_000, 1_000_000, 20, 4_000, 400, 0, 1, 0],
+    [3_000_000, 1_000_000, 1_000_000, 0, 400, 0, 1, 0],
+    [3_000_000, 1_000_000, 1_000_000, 4_000, 10_001, 0, 1, 0],
+    [3_000_000, 1_000_000, 1_000_000, 4_000, 400, 1, 1, 1],
+    [3_000_000, 1_000_000, 1_000_000, 4_000, 400, 0, 2, -1],
+    [3_000_000, 1_000_000, 1_000_000, 4_000, 400, 0, 2, 3],
+    [
+        3_000_000, 1_000_000, 1_000_000, 4_000, 400, 0, 40_000_001, 0,
+    ],
+];
+
+/// Machine data of a row.
+pub fn record(row: Row, measure: Measure) -> RawData {
+    let [fm, fs, increase, units, pulses, low, high, reference] = row;
+    RawData {
+        fm: fm.unsigned_abs(),
+        fs: fs.unsigned_abs(),
+        increase: increase.unsigned_abs(),
+        units: units.unsigned_abs(),
+        pulses: pulses.unsigned_abs(),
+        low,
+        high,
+        reference,
+        measure,
+        ..AXIS_A
+    }
+}
+
+/// Modes, the more useful ones more often.
+pub static MODES: [u8; 24] = [
+    1, 1, 2, 4, 5, 5, 5, 6, 6, 6, 6, 7, 7, 7, 8, 8, 9, 9, 12, 13, 14, 15, 16, 17,
+];
+
+/// Commands that a mode admits, the more useful ones more often.
+pub fn commands_of(mode: u8) -> &'static [Command] {
+    match mode {
+        1 | 2 | 7 => &COMMANDS[1..4],
+        6 => &POSITION,
+        8 | 9 => &PROGRAM,
+        _ => &COMMANDS[0..1],
+    }
+}
+
+static POSITION: [Command; 3] = [Command::Start, Command::Start, Command::Stop];
+
+static PROGRAM: [Command; 4] = [
+    Command::Start,
+    Command::Stop,
+    Command::TakeOver,
+    Command::TakeOver,
+];
+
+pub static MEASURES: [Measure; 6] = [
+    Measure::Millimetre,
+    Measure::Millimetre,
+    Measure::Millimetre,
+    Measure::Millimetre,
+    Measure::Inch,
+    Measure::Degree,
 ];
 
 pub static COMMANDS: [Command; 5] = [

@@ -1,9 +1,12 @@
 use crate::chance::Chance;
-use crate::samples::{AXIS_A, COMMANDS, DATA, FAR, ORDERS, REFUSED, SPEEDS};
+use crate::samples::{
+    COMMANDS, FAR, FIRST_ROW, MEASURES, MODES, REFUSED, ROWS, SPEEDS, commands_of, record,
+};
 use crate::sides::Sides;
 use axis::Levels;
 use module::{Act, Call};
 use states::{Command, Order, Switches};
+use units::Measure;
 
 /// A long run of calls chosen by chance.
 #[derive(Drop)]
@@ -81,9 +84,10 @@ impl Script<'_> {
     }
 
     fn call_of_axis(&mut self, axis: u8) -> anyhow::Result<()> {
+        let row = self.chance.pick(&REFUSED, FIRST_ROW);
         let act = match self.chance.below(12) {
             0 => Act::Delete,
-            1..=3 => Act::Enter(self.chance.pick(&REFUSED, AXIS_A)),
+            1..=3 => Act::Enter(record(row, Measure::Inch)),
             _ => Act::Observe,
         };
         self.act(axis, act)?;
@@ -140,11 +144,11 @@ impl Script<'_> {
     }
 
     fn any_order(&mut self) -> Order {
-        let (mode, command) = self.chance.pick(&ORDERS, (4, Command::Start));
+        let mut mode = self.chance.pick(&MODES, 4);
+        let mut command = self.chance.pick(commands_of(mode), Command::Start);
         if self.chance.one_in(12) {
-            let mode = self.chance.small(0, 20);
-            let command = self.chance.pick(&COMMANDS, Command::Start);
-            return self.of_kind(mode, command);
+            mode = self.chance.small(0, 20);
+            command = self.chance.pick(&COMMANDS, Command::Start);
         }
         self.of_kind(mode, command)
     }
@@ -198,8 +202,9 @@ impl Script<'_> {
 
     // Machine data, and mostly a ready drive and a reference.
     fn set_up(&mut self, axis: u8) -> anyhow::Result<()> {
-        let raw = self.chance.pick(&DATA, AXIS_A);
-        self.act(axis, Act::Enter(raw))?;
+        let row = self.chance.pick(&ROWS, FIRST_ROW);
+        let measure = self.chance.pick(&MEASURES, Measure::Millimetre);
+        self.act(axis, Act::Enter(record(row, measure)))?;
         self.make_ready(axis)?;
         if !self.chance.one_in(5) {
             let reference = self.of_kind(5, Command::Start);

@@ -1,5 +1,4 @@
 use module::{Act, Call};
-use motion::RawData;
 use std::fmt;
 
 /// A call in words, for the account of a difference.
@@ -29,27 +28,11 @@ impl fmt::Display for ShownAct {
     fn fmt<W: fmt::Write>(&self, f: &mut fmt::Formatter<W>) -> fmt::Result {
         match self.0 {
             Act::Enter(raw) => {
-                let RawData {
-                    fm,
-                    fs,
-                    increase,
-                    units,
-                    pulses,
-                    low,
-                    high,
-                    reference,
-                    offsets,
-                    measure,
-                    ..
-                } = raw;
-                write!(
-                    f,
-                    "data {measure:?} fm {fm} fs {fs} a {increase} W {units} P {pulses}"
-                )?;
-                write!(
-                    f,
-                    " low {low} high {high} reference {reference} offsets {offsets:?}"
-                )
+                let steps = (raw.fm, raw.fs, raw.increase, raw.units, raw.pulses);
+                let offsets = raw.offsets;
+                let places = (raw.low, raw.high, raw.reference, offsets);
+                let measure = raw.measure;
+                write!(f, "data {measure:?} {steps:?} {places:?}")
             }
             Act::Delete => f.write_str("data deleted"),
             Act::Order(order) => write!(f, "{order:?}"),

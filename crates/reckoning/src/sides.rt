@@ -45,7 +45,8 @@ pub struct Sides<'a> {
 }
 
 impl<'a> Sides<'a> {
-    pub fn new(rt: &'a HostRuntime, build: Build) -> anyhow::Result<Sides<'a>> {
+    /// A new module on both sides, with what earlier runs have reached.
+    pub fn new(rt: &'a HostRuntime, build: Build, tally: Tally) -> anyhow::Result<Sides<'a>> {
         let made = Module::new(rt.alloc(), core_drives(build)?);
         let Ok(core) = made else {
             return Err(anyhow!("there is no memory for a module"));
@@ -55,7 +56,7 @@ impl<'a> Sides<'a> {
             core,
             plant: plain_drives(build)?,
             calls: 0,
-            tally: Tally::new(),
+            tally,
         })
     }
 
