@@ -3,6 +3,7 @@ use crate::samples::{AXIS_A, turned};
 use crate::sides::{Build, Sides};
 use crate::stage::Stage;
 use crate::tally::Tally;
+use crate::trouble::Trouble;
 use crate::whole::Whole;
 use anyhow::anyhow;
 use axis::Levels;
@@ -26,6 +27,12 @@ const BUILD: Build = Build {
     play: 3,
     plays: [0, 0],
 };
+
+fn same(holds: bool) -> anyhow::Result<()> {
+    holds
+        .then_some(())
+        .ok_or_else(|| anyhow!("an example comes out otherwise"))
+}
 
 fn start(mode: u8, word: u16, double: i32) -> Act {
     given(mode, Command::Start, word, double)
@@ -62,9 +69,7 @@ impl<'a> Bench<'a> {
     fn done(&mut self, act: Act) -> anyhow::Result<(Whole, Whole, Whole)> {
         let axis = self.axis;
         let answers = self.sides.make(&Call::OnAxis { axis, act })?;
-        if answers.reply.is_err() {
-            return Err(anyhow!("an example's call is refused"));
-        }
+        same(answers.reply.is_ok())?;
         let [first, second, _] = answers.sights;
         let [count, layer, _] = answers.counts;
         let [_, motor, _] = answers.motors;
@@ -77,9 +82,7 @@ impl<'a> Bench<'a> {
     /// The coordinate and the counts of carriage and motor after a call.
     fn step(&mut self, act: Act, coordinate: i128, count: i128, motor: i128) -> anyhow::Result<()> {
         let after = self.done(act)?;
-        if after != (Whole(coordinate), Whole(count), Whole(motor)) {
-            return Err(anyhow!("an example comes out otherwise"));
-        }
+        same(after == (Whole(coordinate), Whole(count), Whole(motor)))?;
         print!(self.rt; " {coordinate}/{count}/{motor}")?;
         Ok(())
     }
@@ -116,7 +119,9 @@ pub fn work(rt: &HostRuntime, tally: &mut Tally) -> anyhow::Result<()> {
     play(rt)?;
     feedback(rt)?;
     limit(rt)?;
-    not_made(rt, tally)
+    not_made(rt, tally)?;
+    println!(rt; "")?;
+    Ok(())
 }
 
 fn ramp(rt: &HostRuntime) -> anyhow::Result<()> {
@@ -126,17 +131,14 @@ fn ramp(rt: &HostRuntime) -> anyhow::Result<()> {
     ];
     print!(rt; "ramp")?;
     for (i, frequency) in (1u32..).zip(steps) {
-        if data.run_up(data.greatest_rate(), i).0 != Whole(frequency) {
-            return Err(anyhow!("the ramp comes out otherwise"));
-        }
+        same(data.run_up(data.greatest_rate(), i).0 == Whole(frequency))?;
         print!(rt; " {frequency}")?;
     }
-    println!(rt; "")?;
     Ok(())
 }
 
 fn moves(rt: &HostRuntime) -> anyhow::Result<()> {
-    print!(rt; "0 to 100")?;
+    print!(rt; "\n0 to 100")?;
     let mut bench = Bench::new(rt, 1, AXIS_A)?;
     bench.done(start(6, 1_800, 100))?;
     let begun = [(10, 1), (30, 3), (50, 5)];
@@ -148,28 +150,25 @@ fn moves(rt: &HostRuntime) -> anyhow::Result<()> {
     bench.ticks(&begun)?;
     bench.done(given(6, Command::Stop, 0, 0))?;
     bench.ticks(&[(70, 7), (80, 8), (80, 8), (80, 8)])?;
-    println!(rt; "")?;
     Ok(())
 }
 
 fn places(rt: &HostRuntime) -> anyhow::Result<()> {
-    print!(rt; "three moves by 5")?;
+    print!(rt; "\nthree moves by 5")?;
     let mut bench = Bench::new(rt, 1, turned(1_000, 300))?;
     for (coordinate, count) in [(5, 2), (10, 3), (15, 5)] {
         bench.moves(given(7, Command::Forward, 60, 5), coordinate, count, count)?;
     }
-    println!(rt; "")?;
-    print!(rt; "pulses of 5, 4, -5")?;
+    print!(rt; "\npulses of 5, 4, -5")?;
     for (place, count) in [(5i32, 1), (4, 0), (-5, 0)] {
         let mut bench = Bench::new(rt, 1, turned(10, 1))?;
         bench.moves(start(6, 60, place), i128::from(place), count, count)?;
     }
-    println!(rt; "")?;
     Ok(())
 }
 
 fn nearest(rt: &HostRuntime) -> anyhow::Result<()> {
-    print!(rt; "unit nearest to 5, -5")?;
+    print!(rt; "\nunit nearest to 5, -5")?;
     for (target, unit, count) in [(30, 2, 5), (-30, -1, -5)] {
         let mut bench = Bench::new(rt, 1, turned(3, 10))?;
         bench.done(start(6, 54, target))?;
@@ -177,12 +176,11 @@ fn nearest(rt: &HostRuntime) -> anyhow::Result<()> {
         bench.done(Act::Tick)?;
         bench.step(Act::Tick, unit, count, count)?;
     }
-    println!(rt; "")?;
     Ok(())
 }
 
 fn play(rt: &HostRuntime) -> anyhow::Result<()> {
-    print!(rt; "play 3")?;
+    print!(rt; "\nplay 3")?;
     let mut bench = Bench::new(rt, 2, turned(1, 1))?;
     let forward = given(7, Command::Forward, 60, 1);
     let backward = given(7, Command::Backward, 60, 1);
@@ -190,12 +188,11 @@ fn play(rt: &HostRuntime) -> anyhow::Result<()> {
     bench.moves(forward, 2, 2, 2)?;
     bench.moves(backward, 1, 1, -2)?;
     bench.moves(forward, 2, 2, 2)?;
-    println!(rt; "")?;
     Ok(())
 }
 
 fn feedback(rt: &HostRuntime) -> anyhow::Result<()> {
-    print!(rt; "feedback")?;
+    print!(rt; "\nfeedback")?;
     let mut sides = Sides::new(rt, BUILD, Tally::new())?;
     let steps = [
         (Act::Observe, 0xE0u8),
@@ -204,33 +201,25 @@ fn feedback(rt: &HostRuntime) -> anyhow::Result<()> {
     ];
     for (act, byte) in steps {
         let [first, _, _] = sides.make(&Call::OnAxis { axis: 1, act })?.sights;
-        if first.feedback != byte {
-            return Err(anyhow!("the feedback byte comes out otherwise"));
-        }
+        same(first.feedback == byte)?;
         print!(rt; " {byte:02X}")?;
     }
-    println!(rt; "")?;
     Ok(())
 }
 
 fn limit(rt: &HostRuntime) -> anyhow::Result<()> {
     let mut bench = Bench::new(rt, 1, AXIS_A)?;
-    let beyond = Call::OnAxis {
-        axis: 1,
-        act: start(6, 1_800, 200_001),
-    };
-    match bench.sides.make(&beyond)?.reply {
-        Err(trouble) if trouble.number == 19 => {}
-        _ => return Err(anyhow!("a target above the limit is not refused with 19")),
-    }
+    let act = start(6, 1_800, 200_001);
+    let beyond = Call::OnAxis { axis: 1, act };
+    same(bench.sides.make(&beyond)?.reply == Err(Trouble::at(19, 1, 0, 0)))?;
     bench.done(start(6, 1_800, 200_000))?;
-    println!(rt; "limit 200001 refused with 19, 200000 accepted")?;
+    print!(rt; "\nlimit 200001 refused with 19, 200000 accepted")?;
     Ok(())
 }
 
 // The drives that fault 2 refuses: a stage outside its ends, a layer without room for its play.
 fn not_made(rt: &HostRuntime, tally: &mut Tally) -> anyhow::Result<()> {
-    print!(rt; "drives not made")?;
+    print!(rt; "\ndrives not made")?;
     let least = -1_000_000_000_000;
     let most = 1_000_000_000_000;
     let low = [
@@ -242,15 +231,12 @@ fn not_made(rt: &HostRuntime, tally: &mut Tally) -> anyhow::Result<()> {
     ];
     for (motor, play) in low.iter().chain(&[(0, 3), (most, 65_535), (most + 1, 0)]) {
         let number = making(*motor, *play);
-        if number != Stage::new(*motor, &[*play]).map_or(2, |_| 0) {
-            return Err(anyhow!("a drive is made otherwise"));
-        }
+        same(number == Stage::new(*motor, &[*play]).map_or(2, |_| 0))?;
         if number == 2 {
             print!(rt; " {motor}/{play}")?;
             tally.count_fault(2);
         }
     }
-    println!(rt; "")?;
     Ok(())
 }
 
