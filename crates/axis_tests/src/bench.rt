@@ -13,7 +13,7 @@ use store::{Store, StoreFault};
 use units::Measure;
 
 #[derive(Clone, Copy)]
-pub enum Act {
+pub(crate) enum Act {
     // machine data: fm, units and pulses per turn, low, reference coordinate, measure
     Enter(u32, u32, u32, i32, i32, Measure),
     Delete,
@@ -37,7 +37,7 @@ pub enum Act {
 }
 
 #[derive(Clone, Copy, PartialEq, Eq, Debug)]
-pub enum Answer {
+pub(crate) enum Answer {
     Done,
     // a fault's number; and its program and block
     No(u8),
@@ -50,13 +50,13 @@ pub enum Answer {
 pub type Row = (&'static [Act], Answer);
 
 #[derive(Drop)]
-pub struct Bench {
+pub(crate) struct Bench {
     axis: Axis<ClockStage>,
     store: Store,
 }
 
 impl Bench {
-    pub fn new(heap: Global, count: i64) -> Result<Bench, Fail> {
+    pub(crate) fn new(heap: Global, count: i64) -> Result<Bench, Fail> {
         Ok(Bench {
             axis: Axis::new(ClockStage::new(count)?),
             store: Store::new(heap)?,
@@ -140,7 +140,7 @@ impl Bench {
         Shows(mode, m, o.coordinate, o.shift, o.rest, o.feedback, count)
     }
 
-    pub fn act(
+    pub(crate) fn act(
         &mut self,
         rt: &impl Abort,
         at: (usize, usize),
@@ -227,7 +227,7 @@ const AXIS_A: RawData = RawData {
 };
 
 // All tables on one axis. A failure names its table and its row, from 0.
-pub fn run(rt: &impl Abort, mut bench: Bench, tables: &[&[Row]]) -> Result<(), Fail> {
+pub(crate) fn run(rt: &impl Abort, mut bench: Bench, tables: &[&[Row]]) -> Result<(), Fail> {
     for (table, rows) in tables.iter().enumerate() {
         for (row, (acts, answer)) in rows.iter().enumerate() {
             let at = (table, row);

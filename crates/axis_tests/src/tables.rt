@@ -9,7 +9,7 @@ use states::Command::{Backward, Forward, Start, Stop, TakeOver};
 use units::Measure::{Degree, Inch, Millimetre};
 
 // fm, units and pulses per turn, low, reference coordinate, measure
-pub const AXIS: Act = Enter(3_000_000, 4_000, 400, -1_000, 0, Millimetre);
+pub(crate) const AXIS: Act = Enter(3_000_000, 4_000, 400, -1_000, 0, Millimetre);
 
 const INCHES: Act = Enter(3_000_000, 4_000, 400, -1_000, 105, Inch);
 
@@ -24,13 +24,13 @@ const APART: Act = Enter(3_000_000, 4_000, 400, 200_000, 0, Millimetre);
 
 const WRONG: Act = Enter(39_999, 4_000, 400, 200_000, 0, Millimetre);
 
-pub const READY: Act = Levels(false, false, true);
+pub(crate) const READY: Act = Levels(false, false, true);
 
 const OFF: Act = Levels(false, false, false);
 
-pub const REFERENCE: Act = Set(5, 50_000_000);
+pub(crate) const REFERENCE: Act = Set(5, 50_000_000);
 
-pub const HOME: &[Row] = &[
+pub(crate) const HOME: &[Row] = &[
     (&[], Shows(4, 2, 0, 0, 0, 0xE0, 500)),
     (&[AXIS], Shows(4, 2, 0, 0, 0, 0xA2, 500)),
     (&[READY, REFERENCE], Shows(5, 2, 0, 0, 0, 0x8E, 500)),
@@ -47,7 +47,7 @@ fn admits(mode: u8, command: Command) -> bool {
 }
 
 // What an order without a speed is answered by a new axis, by one in motion and by one that brakes.
-pub fn answers(mode: u8, command: Command) -> (Answer, Answer, Answer) {
+pub(crate) fn answers(mode: u8, command: Command) -> (Answer, Answer, Answer) {
     match (mode, command) {
         (0 | 3 | 10 | 11 | 18.., _) => (No(8), No(8), No(8)),
         _ if !admits(mode, command) => (No(9), No(9), No(9)),
@@ -58,7 +58,7 @@ pub fn answers(mode: u8, command: Command) -> (Answer, Answer, Answer) {
 }
 
 // Without data, without reference, with both; the drive is not ready.
-pub const ASKED: &[Row] = &[
+pub(crate) const ASKED: &[Row] = &[
     (&[To(40_000_001), Set(12, 40_000_001)], No(7)),
     (&[Run(8, 5)], At(7, 5, 0)),
     (&[Resume(9)], At(7, 0, 0)),
@@ -93,7 +93,7 @@ pub const ASKED: &[Row] = &[
     (&[Order(2, Forward, 60, 0)], No(21)),
 ];
 
-pub const SHIFTS: &[Row] = &[
+pub(crate) const SHIFTS: &[Row] = &[
     (&[Set(12, 40_000_001), Set(13, -40_000_001)], No(13)),
     (&[Set(12, 40_000_000)], Done),
     (&[Set(13, 40_000_001), Set(15, -40_000_001)], No(13)),
@@ -116,7 +116,7 @@ pub const SHIFTS: &[Row] = &[
 ];
 
 // Five pulses below the greatest count.
-pub const NEAR_END: &[Row] = &[
+pub(crate) const NEAR_END: &[Row] = &[
     (&[AXIS], Done),
     (&[Order(1, Forward, 1_801, 0)], No(18)),
     (&[Order(1, Forward, 1_800, 0)], No(20)),
@@ -130,14 +130,14 @@ pub const NEAR_END: &[Row] = &[
     (&[Ticks(5)], Shows(6, 2, 54, 0, 0, 0x8E, FARTHEST)),
 ];
 
-pub const AT_LEAST: &[Row] = &[
+pub(crate) const AT_LEAST: &[Row] = &[
     (&[AXIS], Done),
     (&[Order(1, Backward, 1_800, 0)], No(20)),
     (&[Order(1, Forward, 1_800, 0)], No(21)),
 ];
 
 // In motion and braking.
-pub const BUSY: &[Row] = &[
+pub(crate) const BUSY: &[Row] = &[
     (&[To(200_000)], Shows(6, 2, 0, 0, 200_000, 0x0A, 500)),
     (&[WRONG, Delete], No(3)),
     (&[Halt(3)], No(8)),
@@ -156,7 +156,7 @@ pub const BUSY: &[Row] = &[
 ];
 
 // 0 to 100 at speed 1800, then forward to the limit and to it again.
-pub const WORKED: &[Row] = &[
+pub(crate) const WORKED: &[Row] = &[
     (&[To(100)], Shows(6, 2, 0, 0, 100, 0x0A, 500)),
     (&[Ticks(1)], Shows(6, 2, 10, 0, 90, 0x0A, 501)),
     (&[Ticks(1)], Shows(6, 2, 30, 0, 70, 0x0A, 503)),
@@ -173,7 +173,7 @@ pub const WORKED: &[Row] = &[
 ];
 
 // The same move stopped after the third tick.
-pub const STOPPED: &[Row] = &[
+pub(crate) const STOPPED: &[Row] = &[
     (&[To(100), Ticks(3)], Shows(6, 2, 50, 0, 50, 0x0A, 505)),
     (&[Halt(6), Ticks(1)], Shows(6, 2, 70, 0, 30, 0x0A, 507)),
     (&[Ticks(1)], Shows(6, 2, 80, 0, 20, 0x0A, 508)),
@@ -182,7 +182,7 @@ pub const STOPPED: &[Row] = &[
 ];
 
 // Three moves by 5 send 2, 1, 2.
-pub const BY_FIVE: &[Row] = &[
+pub(crate) const BY_FIVE: &[Row] = &[
     (&[THIRDS, REFERENCE, Order(7, Forward, 600, 5)], Done),
     (&[Ticks(3)], Shows(7, 2, 5, 0, 0, 0x8E, 502)),
     (&[Order(7, Forward, 600, 5)], Done),
@@ -203,7 +203,7 @@ const WORDS: &[&[u8]] = &[
     b"G00 X0 M30",
 ];
 
-pub const PROGRAMS: &[Row] = &[
+pub(crate) const PROGRAMS: &[Row] = &[
     (&[Set(12, 50), Set(15, 30)], Done),
     (
         &[Keep(6, Millimetre, &[b"X0.1 M00", b"X0.1", b"M02"])],
@@ -297,7 +297,7 @@ pub const PROGRAMS: &[Row] = &[
     (&[Resume(9)], No(7)),
 ];
 
-pub const TROUBLE: &[Row] = &[
+pub(crate) const TROUBLE: &[Row] = &[
     (&[Levels(false, true, true), To(100)], Done),
     (&[Ticks(1)], At(23, 0, 0)),
     (&[], Shows(6, 2, 0, 0, 0, 0xA2, 500)),
@@ -331,7 +331,7 @@ const BEYOND: &[&[u8]] = &[b"M07", b"G54 X199.901 M05", b"M02"];
 const TO_HIGH: &[&[u8]] = &[b"G54 X199.9 F2 M05", b"M30"];
 
 // Blocks that are refused, and faults while a block moves.
-pub const TROUBLE_IN_PROGRAM: &[Row] = &[
+pub(crate) const TROUBLE_IN_PROGRAM: &[Row] = &[
     (&[Keep(1, Millimetre, BEYOND)], Done),
     (&[Keep(2, Millimetre, TO_HIGH)], Done),
     (&[Keep(3, Millimetre, &[b"G01 X300 F1801 M30"])], Done),
@@ -373,7 +373,7 @@ pub const TROUBLE_IN_PROGRAM: &[Row] = &[
 ];
 
 // Data entered and deleted: standing, braking and held. The levels stay.
-pub const DATA: &[Row] = &[
+pub(crate) const DATA: &[Row] = &[
     (&[WRONG], At(4, 0, 0)),
     (&[APART], At(5, 0, 0)),
     (&[Delete], At(7, 0, 0)),
