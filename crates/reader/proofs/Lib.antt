@@ -1,12 +1,11 @@
 pub mod Numbers
 pub mod Cuts
-pub mod Tables
 pub mod Passes
+pub mod Summaries
 pub mod Runs
 pub mod Forms
 pub mod Readings
 pub mod Firsts
-pub mod Folds
 pub mod Blocks
 pub mod Sayings
 pub mod Verdicts

@@ -1,7 +1,6 @@
 -- A line cut into its words and remarks.
-use Rattle.std.specs.Prelude.{◌≡◌, ℕ, zero, suc, ◌+◌, ◌<◌, Bool, cond, not, List, [], ◌∷◌, map, length, take, Some, None, Ok, Err, Option, Result, ◌==◌, nat_lt}
+use Rattle.std.specs.Prelude.{◌≡◌, ℕ, zero, suc, ◌+◌, ◌<◌, Bool, cond, not, List, [], ◌∷◌, length, take, Some, None, Ok, Err, Option, Result, ◌==◌, nat_lt}
 use Rattle.std.specs.List.{prefix_len}
-use Rattle.arrayvec.specs.ArrayVec.{ArrayVec}
 use Rattle.units.specs.declared.Measure.{Measure}
 use Rattle.reader.specs.declared.fault.LineFault.{LineFault}
 use Rattle.reader.specs.declared.fault.LineFault.TheVariants.{Form}
@@ -89,8 +88,3 @@ abbrev pub fault_in : Cut → Option ℕ
 fault_in end = None
 fault_in (part p c) = fault_in c
 fault_in (broken at) = Some at
-
--- the parts of a line that has no fault of form
-abbrev pub Filled : Cut → Result (ArrayVec Part) LineFault → Type 0
-Filled c (Err e) = (at : ℕ) × (fault_in c ≡ Some at) × (e ≡ Form at)
-Filled c (Ok v) = (fault_in c ≡ None) × (map shown v.items ≡ pieces c)

@@ -1,5 +1,5 @@
 -- The questions to a line, in their order, and the block that a good line gives.
-use Rattle.std.specs.Prelude.{◌≡◌, ℕ, Bool, true, false, cond, not, ◌&&◌, ◌||◌, List, [], ◌∷◌, ◌++◌, length, is_some, Some, None, Ok, Err, Option, Result, ◌==◌, nat_le, nat_lt}
+use Rattle.std.specs.Prelude.{ℕ, Bool, false, cond, not, ◌&&◌, ◌||◌, List, [], ◌∷◌, ◌++◌, length, is_some, Some, None, Ok, Err, Option, Result, ◌==◌, nat_le, nat_lt}
 use Rattle.std.specs.List.{list_any}
 use Rattle.units.specs.declared.Measure.{Measure}
 use Rattle.reader.specs.declared.part.Letter.{Letter}
@@ -89,16 +89,3 @@ verdict m blocks xs =
     (cond (nat_le 64 blocks) (Err ProgramFull)
     (cond (blocks == 0 && per_cent xs) (Ok None)
     (judged m (cut m 0 0 xs))))
-
--- what the passes over the parts answer: the first bad one of them is the fault, or there is none
-abbrev pub Ordered : List Piece → Result (Unit {0}) LineFault → Type 0
-Ordered ps (Ok u) = first_bad misplaced [] ps ≡ None
-Ordered ps (Err e) = (at : ℕ) × (first_bad misplaced [] ps ≡ Some at) × (e ≡ Order at)
-
-abbrev pub Added : Measure → Option Block → Piece → Result (Option Block) LineFault → Type 0
-Added m o p (Ok b) = (outside m p ≡ false) × (b ≡ more (said m p) o)
-Added m o p (Err e) = (outside m p ≡ true) × (e ≡ Range (start_of p))
-
-abbrev pub Ranged : Measure → List Piece → Result (Option Block) LineFault → Type 0
-Ranged m ps (Ok b) = (first_bad (λ _ p. outside m p) [] ps ≡ None) × (b ≡ block_from m None ps)
-Ranged m ps (Err e) = (at : ℕ) × (first_bad (λ _ p. outside m p) [] ps ≡ Some at) × (e ≡ Range at)

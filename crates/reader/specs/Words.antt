@@ -17,8 +17,6 @@ use Rattle.reader.specs.declared.block.Value.TheVariants as value
 use Rattle.std.specs.Option.{option_map}
 use Rattle.reader.specs.declared.part.Letter.{Letter}
 use Rattle.reader.specs.declared.part.Letter.TheVariants.{N, G, X, F, M}
-use Rattle.reader.specs.declared.block.Group.{Group}
-use Rattle.reader.specs.declared.block.Group.TheVariants.{Motions, Offsets, Ways}
 
 abbrev pub motion_code : Motion → ℕ
 motion_code Rapid = 0
@@ -152,12 +150,6 @@ rank G = 1
 rank X = 2
 rank F = 3
 rank M = 4
-
--- the group of a G word
-abbrev pub group_of : Preparatory → Group
-group_of (OfMotion m) = Motions
-group_of (OfOffset o) = Offsets
-group_of (OfWay w) = Ways
 
 -- two G words of one group; one that is not known is in none
 abbrev pub same_group : Option Preparatory → Option Preparatory → Bool

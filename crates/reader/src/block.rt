@@ -1,7 +1,8 @@
 ghost use Rattle.std.specs.Prelude.{◌≡◌};
 ghost use Rattle.std.specs.Result.{result_ok};
-ghost use Rattle.reader.specs.Words.{motion_code, offset_code, way_code, preparatory, group_of, ends_by};
+ghost use Rattle.reader.specs.Words.{motion_code, offset_code, way_code, preparatory, ends_by};
 ghost use Rattle.reader.specs.Questions.{holding};
+ghost use Rattle.reader.specs.Summaries.{held};
 
 /// How an X is run, each with the number of its G word.
 #[derive(Clone, Copy, PartialEq, Eq, Debug)]
@@ -33,14 +34,6 @@ pub(crate) enum Preparatory {
     OfMotion(Motion),
     OfOffset(OffsetChoice),
     OfWay(Way),
-}
-
-// The groups of G words: a line has at most one word of each.
-#[derive(Clone, Copy, PartialEq, Eq)]
-pub(crate) enum Group {
-    Motions,
-    Offsets,
-    Ways,
 }
 
 // A number that no G word has, or a byte that no word's letter has.
@@ -85,6 +78,21 @@ impl Block {
             Value::Auxiliary(m) => self.auxiliary = Some(m),
         }
         self
+    }
+
+    // Whether it has a value in the place of this one.
+    pub(crate) fn has_place_of(&self, value: Value) -> bool
+        ensures { result ≡ held value self.now }
+    {
+        match value {
+            Value::Number(_) => self.number.is_some(),
+            Value::Prepared(Preparatory::OfMotion(_)) => self.motion.is_some(),
+            Value::Prepared(Preparatory::OfOffset(_)) => self.offset.is_some(),
+            Value::Prepared(Preparatory::OfWay(_)) => self.way.is_some(),
+            Value::Target(_) => self.target.is_some(),
+            Value::Rate(_) => self.feed.is_some(),
+            Value::Auxiliary(_) => self.auxiliary.is_some(),
+        }
     }
 }
 
@@ -133,18 +141,6 @@ impl TryFrom<u8> for Preparatory {
             90 => Ok(Preparatory::OfWay(Way::Absolute)),
             91 => Ok(Preparatory::OfWay(Way::Relative)),
             _ => Err(Unknown),
-        }
-    }
-}
-
-impl Preparatory {
-    pub(crate) fn group(self) -> Group
-        ensures { result ≡ group_of self }
-    {
-        match self {
-            Preparatory::OfMotion(_) => Group::Motions,
-            Preparatory::OfOffset(_) => Group::Offsets,
-            Preparatory::OfWay(_) => Group::Ways,
         }
     }
 }

@@ -8,18 +8,16 @@ ghost use Rattle.reader.specs.Answers.{OneAnswer, WithinLimits, ValuesSaid, Code
 pub mod block;
 pub mod fault;
 mod number;
-mod order;
 mod part;
 mod rest;
+mod summary;
 mod values;
 
 pub use block::{Block, Motion, OffsetChoice, Way, ends_program};
 pub use fault::LineFault;
-use order::in_order;
-use part::parts_of;
 use rest::{MOST_BYTES, Rest};
+use summary::Summary;
 use units::Measure;
-use values::block_of;
 
 /// The most blocks of a program.
 pub const MOST_BLOCKS: usize = 64;
@@ -53,11 +51,17 @@ fn judge(line: &[u8], measure: Measure, blocks: usize) -> Result<Option<Block>, 
     read_words(Rest::of(line, measure))
 }
 
-// Form, order and range are each asked of the whole line before the next.
+// A fault of form anywhere in the line is answered before one of order, and that before one of range: so the
+// other two are kept until the line has been read.
 fn read_words(line: Rest) -> Result<Option<Block>, LineFault>
     ensures { result ≡ judged line.entry.measure (left line.entry) }
 {
-    let parts = parts_of(line)?;
-    in_order(&parts)?;
-    block_of(&parts, line.measure)
+    let mut rest = line;
+    let mut words = Summary::default();
+    while let Some(begun) = rest.next_part() {
+        let (part, after) = begun?;
+        words.add(part, line.measure);
+        rest = after;
+    }
+    words.answer()
 }

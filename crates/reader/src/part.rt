@@ -3,13 +3,12 @@ ghost use Rattle.std.specs.List.{prefix_len};
 ghost use Rattle.std.specs.Result.{result_ok};
 ghost use Rattle.reader.specs.Words.{numeric, letter_of, formed};
 ghost use Rattle.reader.specs.Reads.{Stops};
-ghost use Rattle.reader.specs.Lines.{blank, closed_at, left, Begins, Next, Filled};
+ghost use Rattle.reader.specs.Lines.{blank, closed_at, left, Begins, Next};
 
 use crate::block::Unknown;
 use crate::fault::LineFault;
 use crate::number::{all_digits, take_apart};
-use crate::rest::{MOST_BYTES, Rest};
-use arrayvec::ArrayVec;
+use crate::rest::Rest;
 use units::Measure;
 
 // The letters of words, in the order in which they may stand.
@@ -52,13 +51,6 @@ pub(crate) struct Word<'a> {
 pub(crate) enum Part<'a> {
     Word { word: Word<'a>, at: usize },
     Remark { text: &'a [u8], at: usize },
-}
-
-// What stands in the places of a table that no part of a line has filled.
-impl Default for Part<'_> {
-    fn default() -> Self {
-        Part::Remark { text: &[], at: 0 }
-    }
 }
 
 impl Word<'_> {
@@ -143,7 +135,7 @@ impl<'a> Rest<'a> {
     }
 
     // The first part, and what is left after it; none where only blanks are left.
-    fn next_part(self) -> Option<Result<(Part<'a>, Rest<'a>), LineFault>>
+    pub(crate) fn next_part(self) -> Option<Result<(Part<'a>, Rest<'a>), LineFault>>
         ensures { Next self.entry result }
     {
         let start = self.after_blanks();
@@ -153,18 +145,4 @@ impl<'a> Rest<'a> {
             _ => Some(word_at(start.at, first, tail)),
         }
     }
-}
-
-// The parts of a line.
-pub(crate) fn parts_of<'a>(line: Rest<'a>) -> Result<ArrayVec<Part<'a>, MOST_BYTES>, LineFault>
-    ensures { Filled (left line.entry) result }
-{
-    let mut rest = line;
-    let mut parts = ArrayVec::new();
-    while let Some(begun) = rest.next_part() {
-        let (part, after) = begun?;
-        parts.push(part);
-        rest = after;
-    }
-    Ok(parts)
 }

@@ -1,12 +1,9 @@
-ghost use Rattle.std.specs.Prelude.{◌≡◌, map};
-ghost use Rattle.reader.specs.Words.{onto, within, value_of};
-ghost use Rattle.reader.specs.Lines.{shown};
-ghost use Rattle.reader.specs.Questions.{Added, Ranged};
+ghost use Rattle.std.specs.Prelude.{◌≡◌};
+ghost use Rattle.reader.specs.Words.{onto, preparatory, within, value_of};
 
-use crate::block::{Block, Value};
-use crate::fault::LineFault;
+use crate::block::{Preparatory, Value};
 use crate::number::{units, value_upto};
-use crate::part::{Letter, Part, Word};
+use crate::part::{Letter, Word};
 use units::Measure;
 
 // The value of digits, from 1 to `most`.
@@ -18,8 +15,15 @@ fn counted(digits: &[u8], most: u16) -> Option<u16>
 }
 
 impl Word<'_> {
+    // What it says as a G word, if that is known.
+    fn preparatory(self) -> Option<Preparatory>
+        ensures { result ≡ preparatory (onto 0 self.entry.number.now) }
+    {
+        Preparatory::try_from(value_upto(0, self.number, 99)? as u8).ok()
+    }
+
     // What it says, if its number is in range.
-    fn value(self, measure: Measure) -> Option<Value>
+    pub(crate) fn value(self, measure: Measure) -> Option<Value>
         ensures { result ≡ value_of measure self.entry.letter self.entry.number.now }
     {
         match self.letter {
@@ -30,24 +34,4 @@ impl Word<'_> {
             Letter::M => value_upto(0, self.number, 99).map(|m| Value::Auxiliary(m as u8)),
         }
     }
-}
-
-// The block so far with what a part says; a remark says nothing.
-fn add(block: Option<Block>, part: Part, measure: Measure) -> Result<Option<Block>, LineFault>
-    ensures { Added measure block (shown part.entry) result }
-{
-    let Part::Word { word, at } = part else {
-        return Ok(block);
-    };
-    let value = word.value(measure).ok_or(LineFault::Range { at })?;
-    Ok(Some(block.unwrap_or_default().with(value)))
-}
-
-// What the words of a line say together; none where it has no word.
-pub(crate) fn block_of(parts: &[Part], measure: Measure) -> Result<Option<Block>, LineFault>
-    ensures { Ranged measure (map shown parts.now) result }
-{
-    parts
-        .iter()
-        .try_fold(None, |block, part| add(block, *part, measure))
 }
