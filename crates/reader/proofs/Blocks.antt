@@ -3,6 +3,7 @@ use Rattle.std.proofs.Common.{◌≡◌, ℕ, ◌-◌, true, false, cond, not, �
 use Rattle.std.proofs.lemmas.Bool.{and_from, or_right, or_parts, eq-eqb, both_ways, cases_eq}
 use Rattle.std.proofs.lemmas.List.{append_assoc}
 use Rattle.std.specs.Option.{option_map}
+use Rattle.std.proofs.lemmas.Option.{none-some, same_Some}
 use Rattle.units.specs.declared.Measure.{Measure}
 use Rattle.reader.specs.declared.part.Letter.{Letter}
 use Rattle.reader.specs.declared.part.Letter.TheVariants.{G}
@@ -15,7 +16,6 @@ use Rattle.reader.specs.Words.{rank, onto, preparatory, same_group, value_of}
 use Rattle.reader.specs.Lines.{Piece, word, remark}
 use Rattle.reader.specs.Questions.{clash, misplaced, outside, empty, holding, more, said, block_from}
 use Rattle.reader.specs.Answers.{Among, NoneBad, Has, Told, Gives}
-use Rattle.reader.proofs.Forms.{same_some, none_some}
 
 -- which field of a block a value fills
 abbrev kind : Value → ℕ
@@ -48,8 +48,8 @@ same_kind_group : (g h : Preparatory) → kind (value.Prepared g) ≡ kind (valu
 same_kind_group g h e = grind arith
 
 pub some_from : {A B : Type 0} (f : A → B) (o : Option A) (v : B) → option_map f o ≡ Some v → (x : A) × (o ≡ Some x) × (f x ≡ v)
-some_from f None v e = absurd (none_some v e)
-some_from f (Some x) v e = (x, refl, same_some (f x) v e)
+some_from f None v e = absurd (none-some v e)
+some_from f (Some x) v e = (x, refl, same_Some (f x) v e)
 
 -- the rank of the letter that fills a field
 abbrev rank_at : ℕ → ℕ
@@ -68,8 +68,8 @@ twice : (m : Measure) (l k : Letter) (n o : List ℕ) (v w : Value) → rank l �
 twice m l k n o v w r p q e = grind (arith, both_g m n o v w)
 
 pub one_field : (m : Measure) (p q : Piece) (v w : Value) → said m p ≡ Some v → said m q ≡ Some w → kind v ≡ kind w → clash p q ≡ true
-one_field m (remark s at) q v w a b e = absurd (none_some v a)
-one_field m (word l n at) (remark t to) v w a b e = absurd (none_some w b)
+one_field m (remark s at) q v w a b e = absurd (none-some v a)
+one_field m (word l n at) (remark t to) v w a b e = absurd (none-some w b)
 one_field m (word l n at) (word k o to) v w a b e =
     let r : rank l ≡ rank k = rank_kind m l n v a ∙ ap rank_at e ∙ sym (rank_kind m k o w b) in
     or_right (ltb (rank k) (rank l)) _ (and_from _ _ (eq-eqb (rank l) (rank k) r) (twice m l k n o v w r a b e))
@@ -172,7 +172,7 @@ AWord ps = (l : Letter) × (n : List ℕ) × (at : ℕ) × Among (word l n at) p
 
 told-word : (m : Measure) (ps : List Piece) (v : Value) (p : Piece) → Among p ps → said m p ≡ Some v → AWord ps
 told-word m ps v (word l n at) a e = (l, n, at, a)
-told-word m ps v (remark t at) a e = absurd (none_some v e)
+told-word m ps v (remark t at) a e = absurd (none-some v e)
 
 pub gives : (m : Measure) (ps : List Piece) → NoneBad misplaced ps → NoneBad (λ _ p. outside m p) ps → Gives m ps (block_from m None ps)
 gives m ps ordered ranged =

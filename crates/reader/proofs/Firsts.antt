@@ -2,10 +2,10 @@
 use Rattle.std.proofs.Common.{◌≡◌, ℕ, Bool, true, false, List, [], ◌∷◌, ◌++◌, Some, None, sym, refl, ap, ◌∙◌, ⊎_elim, arith}
 use Rattle.std.proofs.lemmas.List.{append-nil, append_assoc}
 use Rattle.std.proofs.lemmas.Bool.{cond-true, cond-false, cases_Bool}
+use Rattle.std.proofs.lemmas.Option.{none-some, same_Some}
 use Rattle.reader.specs.Lines.{Piece}
 use Rattle.reader.specs.Questions.{start_of, first_bad}
 use Rattle.reader.specs.Answers.{Split, NoneBad, FirstAt}
-use Rattle.reader.proofs.Forms.{same_some, none_some}
 
 abbrev Test : Type 0
 Test = List Piece → Piece → Bool
@@ -39,9 +39,9 @@ some_later : (bad : Test) (acc : List Piece) (q : Piece) (qs : List Piece) (at :
 some_later bad acc q qs at f s = (q ∷ s.0, s.1, s.2, ap (λ r. q ∷ r) s.3, cond-false (bad acc q) _ _ f ∙ s.4, sym (shift bad acc q s.0 s.1) ∙ s.5, s.6)
 
 some_at : (bad : Test) (ps acc : List Piece) (at : ℕ) → first_bad bad acc ps ≡ Some at → SomeAt bad acc ps at
-some_at bad [] acc at h = absurd (none_some at h)
+some_at bad [] acc at h = absurd (none-some at h)
 some_at bad (q ∷ qs) acc at h =
-    ⊎_elim (λ t. ([], q, qs, refl, refl, ap (λ b. bad b q) (append-nil acc) ∙ t, same_some (start_of q) at (sym (cond-true (bad acc q) _ _ t) ∙ h)))
+    ⊎_elim (λ t. ([], q, qs, refl, refl, ap (λ b. bad b q) (append-nil acc) ∙ t, same_Some (start_of q) at (sym (cond-true (bad acc q) _ _ t) ∙ h)))
     (λ f. some_later bad acc q qs at f (some_at bad qs (acc ++ q ∷ []) at (sym (cond-false (bad acc q) _ _ f) ∙ h)))
     (cases_Bool (bad acc q))
 

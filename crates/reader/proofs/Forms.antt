@@ -4,6 +4,7 @@ use Rattle.std.specs.List.{prefix_len}
 use Rattle.std.proofs.lemmas.List.{take-append-drop}
 use Rattle.std.proofs.lemmas.Bool.{cond-false, eqb-true, eq-eqb, ne_eqb, cases_eq, and_parts, and_from, leb-true, le-leb, both_ways, not-true, not_from_false, eqb-false, or_from}
 use Rattle.std.proofs.lemmas.Bool.Decides.{nat_tests}
+use Rattle.std.proofs.lemmas.Option.{none-some, same_Some}
 use Rattle.units.specs.declared.Measure.{Measure}
 use Rattle.reader.specs.declared.part.Letter.{Letter}
 use Rattle.reader.specs.declared.part.Letter.TheVariants.{N, G, X, F, M}
@@ -28,20 +29,14 @@ sign_of (b ∷ bs) =
     (λ p. ⊎_elim (λ e. subst (λ x. SignOf (x ∷ bs)) (sym e) (43 ∷ [], plus, refl)) (λ q. sign_other b bs p q) (cases_eq b 43))
     (cases_eq b 45)
 
-pub same_some : {A : Type 0} (x y : A) → Some x ≡ Some y → x ≡ y
-same_some x y e = cc
-
-pub none_some : {A : Type 0} (x : A) → None ≡ Some x → ⊥
-none_some x e = let z : ◌≡◌ {A = ℕ} 0 1 = cc in omega arith
-
 fraction-point : (d : List ℕ) (bs : List ℕ) → fraction (46 ∷ bs) ≡ Some d → Fraction (46 ∷ bs) d
-fraction-point d bs h = subst (Fraction (46 ∷ bs)) (same_some bs d h) (point bs)
+fraction-point d bs h = subst (Fraction (46 ∷ bs)) (same_Some bs d h) (point bs)
 
 pub fraction_from : (r d : List ℕ) → fraction r ≡ Some d → Fraction r d
-fraction_from [] d h = subst (Fraction []) (same_some [] d h) without
+fraction_from [] d h = subst (Fraction []) (same_Some [] d h) without
 fraction_from (b ∷ bs) d h =
     ⊎_elim (λ e. subst (λ x. fraction (x ∷ bs) ≡ Some d → Fraction (x ∷ bs) d) (sym e) (fraction-point d bs) h)
-    (λ q. absurd (none_some d (sym (cond-false (eqb b 46) (Some bs) None (ne_eqb b 46 q)) ∙ h)))
+    (λ q. absurd (none-some d (sym (cond-false (eqb b 46) (Some bs) None (ne_eqb b 46 q)) ∙ h)))
     (cases_eq b 46)
 
 pub fraction_to : (f d : List ℕ) → Fraction f d → fraction f ≡ Some d

@@ -1,6 +1,5 @@
 pub mod Numbers
 pub mod Cuts
-pub mod Passes
 pub mod Summaries
 pub mod Runs
 pub mod Forms

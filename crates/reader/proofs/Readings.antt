@@ -5,6 +5,7 @@ use Rattle.std.proofs.lemmas.List.{take-append-drop, length-take-le, drop-drop, 
 use Rattle.std.proofs.lemmas.List.Sums.{prefix_len-le-length}
 use Rattle.std.proofs.lemmas.Bool.{cond-false, ne_eqb, cases_eq, cases_Bool, cases_lt, le-ltb, both_ways, eqb-true, not-false}
 use Rattle.std.proofs.lemmas.Bool.Decides.{nat_tests}
+use Rattle.std.proofs.lemmas.Option.{none-some}
 use Rattle.units.specs.declared.Measure.{Measure}
 use Rattle.reader.specs.declared.part.Letter.{Letter}
 use Rattle.reader.specs.declared.part.Letter.TheVariants.{N, G, X, F, M}
@@ -12,7 +13,7 @@ use Rattle.reader.specs.Words.{numeric, letter_of, formed}
 use Rattle.reader.specs.Lines.{Piece, word, remark, Cut, part, broken, inside, remark_of, remark_in, word_in, opened, cut, pieces, fault_in}
 use Rattle.reader.specs.Reads.{AllOf, Stops, byte_of, Reads, done, blank, a_word, a_remark, ill_formed, unclosed, unknown}
 use Rattle.reader.proofs.Runs.{run_leading, stops_leading, run_from_length, length_from_run, leading_run, take-run, drop-run}
-use Rattle.reader.proofs.Forms.{well_from, well_to, none_some}
+use Rattle.reader.proofs.Forms.{well_from, well_to}
 use Rattle.reader.proofs.Cuts.{cut_step, cut_word, cut_remark, taken_word, opened-word, remark-closed}
 
 -- letters
@@ -36,7 +37,7 @@ no_letter b h =
     ∙ cond-false (eqb b 70) _ _ (ne_eqb b 70 (h F)) ∙ cond-false (eqb b 77) _ _ (ne_eqb b 77 (h M))
 
 not_letter : (b : ℕ) (l : Letter) → letter_of b ≡ None → b ≡ byte_of l → ⊥
-not_letter b l h e = none_some l (sym h ∙ ap letter_of e ∙ byte_letter l)
+not_letter b l h e = none-some l (sym h ∙ ap letter_of e ∙ byte_letter l)
 
 no_blank : (l : Letter) → byte_of l ≡ 32 → ⊥
 no_blank N e = omega arith

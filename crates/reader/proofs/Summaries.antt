@@ -1,6 +1,6 @@
 -- The questions to all parts of a line are answered by what its words so far come to.
 use Rattle.std.proofs.Common.{◌≡◌, ℕ, Bool, false, cond, ◌&&◌, ◌||◌, eqb, ltb, not, List, [], ◌∷◌, ◌++◌, is_some, Some, None, Ok, Err, Option, Result, sym, refl, ap, ◌∙◌, arith}
-use Rattle.std.specs.Option.{option_map}
+use Rattle.std.specs.Option.{option_map, UnwrapsOrElse}
 use Rattle.std.proofs.Math.Bool.{or-false}
 use Rattle.std.proofs.lemmas.Bool.{or_parts}
 use Rattle.std.proofs.lemmas.List.Folds.{list_any-append}
@@ -17,11 +17,20 @@ use Rattle.reader.specs.declared.rest.Rest.{Rest}
 use Rattle.reader.specs.declared.summary.Summary.{Summary}
 use Rattle.reader.specs.Words.{rank, onto, preparatory, same_group, units_of, upto, within, value_of}
 use Rattle.reader.specs.Lines.{Piece, word, remark, Cut, end, part, broken, pieces, fault_in, left, Begins}
-use Rattle.reader.specs.Questions.{start_of, first_bad, words_clash, clash, misplaced, outside, more, said, block_from, asks, judged}
+use Rattle.reader.specs.Questions.{start_of, first_bad, words_clash, clash, misplaced, outside, empty, holding, more, said, block_from, asks, judged}
 use Rattle.reader.specs.Summaries.{repeats, after, not_before, bars, first, outside_at, added, answered, start, answered_with}
 
-abbrev Places : Type 0
-Places = Option ℕ
+-- what the derived default of a block is
+abbrev pub IsDefault : Block → Type 0
+IsDefault b =
+    (b.number ≡ None) × ((b.motion ≡ None) × ((b.offset ≡ None) × ((b.way ≡ None) × ((b.target ≡ None) × ((b.feed ≡ None) × (b.auxiliary ≡ None))))))
+
+default_empty : (b : Block) → IsDefault b → b ≡ empty
+default_empty b (n, (m, (o, (w, (t, (f, a)))))) = λ i. record { number = n i; motion = m i; offset = o i; way = w i; target = t i; feed = f i; auxiliary = a i }
+
+pub more_default : (v : Value) (o : Option Block) (b : Block) → UnwrapsOrElse o IsDefault b → Some (holding v b) ≡ more (Some v) o
+more_default v None b d = ap (λ c. Some (holding v c)) (default_empty b d)
+more_default v (Some c) b d = ap (λ c. Some (holding v c)) d
 
 -- a G word and the one before it say values of one place just where they are of one group
 repeats_group : (h g : Option Preparatory) (b : Option Block) → (repeats b (option_map value.Prepared g) || same_group h g) ≡ repeats (more (option_map value.Prepared h) b) (option_map value.Prepared g)

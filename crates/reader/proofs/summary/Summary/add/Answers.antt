@@ -1,5 +1,5 @@
 use Rattle.std.proofs.Common.{rules}
-use Rattle.reader.proofs.Passes.{more_default}
+use Rattle.reader.proofs.Summaries.{more_default}
 use Rattle.reader.proofs.summary.Summary.add.Goals as goal
 
 pub returns-in-Some : goal.returns-in-Some
