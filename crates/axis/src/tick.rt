@@ -14,7 +14,7 @@ use states::movers::{brake_in, tick_in};
 use states::{AxisFault, Cause, Journey, Reading, Record, State};
 use store::Store;
 use ticks::blocks::take;
-use ticks::moving::{direction_of, fail, follow, is_ahead, settle, settle_braking};
+use ticks::moving::{arrive, direction_of, fail, follow, is_ahead, stop_short};
 
 // Functions over an axis's drive and its record, since their contracts name the move in progress, of which
 // the axis tells only while it moves. A tick and a braking tick differ in what they run and in what they
@@ -37,7 +37,7 @@ fn run_on<D: Drive>(drive: &mut D, status: &mut Record, journey: Journey)
     let passed = tick_in(&mut status.machine);
     let reading = pulse(drive, journey, passed.pulses);
     if passed.ended {
-        settle(status, journey, reading, true);
+        arrive(status, journey);
     } else {
         follow(status, journey, reading);
     }
@@ -51,7 +51,7 @@ fn slow_down<D: Drive>(drive: &mut D, status: &mut Record, journey: Journey)
     let passed = brake_in(&mut status.machine);
     let reading = pulse(drive, journey, passed.pulses);
     if passed.ended {
-        settle_braking(status, journey, reading, true);
+        stop_short(status, journey, reading);
     } else {
         follow(status, journey, reading);
     }

@@ -6,7 +6,7 @@ ghost use Rattle.states.specs.Effects.{fault_in};
 ghost use Rattle.states.specs.State.{with_work, held as held_with, between};
 ghost use Rattle.states.specs.View.{raw_in, going_in, course_in, course_if, travel_of, phase_of, status_of};
 ghost use Rattle.ticks.specs.Blocks.{done_with};
-ghost use Rattle.ticks.specs.Moving.{at, placed, is_ahead, after_move, stopped_short, ran, slowed, fail_step};
+ghost use Rattle.ticks.specs.Moving.{at, placed, is_ahead, after_move, arrived, stopped_short, fail_step};
 
 use drives::direction::Direction;
 use reader::ends_program;
@@ -94,33 +94,23 @@ pub fn follow(axis: &mut Record, journey: Journey, reading: Reading)
     axis.work.coordinate = here;
 }
 
-// Whether the move is complete, or the axis stands, is what its tick answered. Two functions of each
-// would leave to every caller what is decided here once.
-
-/// After the pulses of a tick of motion: where the axis is, and whether the move is complete.
-pub fn settle(axis: &mut Record, journey: Journey, reading: Reading, complete: bool)
-    ensures { status_of axis.new ≡ with_work (ran complete (going_in axis.old.machine) (travel_of (going_in axis.old.machine) journey) reading.count (raw_in axis.old.machine) (status_of axis.old).work) (status_of axis.old) }
+/// After the pulses of the tick that completes its move: the axis is at the target, and the block of its
+/// program is done.
+pub fn arrive(axis: &mut Record, journey: Journey)
+    ensures { status_of axis.new ≡ with_work (arrived (travel_of (going_in axis.old.machine) journey) (status_of axis.old).work) (status_of axis.old) }
 {
-    if complete {
-        axis.work.coordinate = journey.target;
-        axis.work.in_position = true;
-        axis.work.state = after_move(axis.work.mode, journey.run);
-        return;
-    }
-    axis.work.coordinate = axis.place(journey, reading);
-    axis.work.state = State::Moving(journey);
+    axis.work.coordinate = journey.target;
+    axis.work.in_position = true;
+    axis.work.state = after_move(axis.work.mode, journey.run);
 }
 
-/// The same after a braking tick: where the axis is, and whether it stands.
-pub fn settle_braking(axis: &mut Record, journey: Journey, reading: Reading, stands: bool)
-    ensures { status_of axis.new ≡ with_work (slowed stands (going_in axis.old.machine) (travel_of (going_in axis.old.machine) journey) reading.count (raw_in axis.old.machine) (status_of axis.old).work) (status_of axis.old) }
+/// After the pulses of the braking tick that ends its move: the axis stands where it is, with its program
+/// held.
+pub fn stop_short(axis: &mut Record, journey: Journey, reading: Reading)
+    ensures { status_of axis.new ≡ with_work (at (placed (raw_in axis.old.machine) (travel_of (going_in axis.old.machine) journey) reading.count (status_of axis.old).work) (stopped_short journey.target (course_if journey.run)) (status_of axis.old).work) (status_of axis.old) }
 {
     axis.work.coordinate = axis.place(journey, reading);
-    axis.work.state = if stands {
-        stopped_short(journey)
-    } else {
-        State::Braking(journey)
-    };
+    axis.work.state = stopped_short(journey);
 }
 
 /// 23 and 24: the axis stops at once, its reference is lost and its program is over.
