@@ -60,8 +60,8 @@ runs_or_stops c = runs c || stops c
 abbrev starts_or_stops : Command → Bool
 starts_or_stops c = starts c || stops c
 
-abbrev all : Command → Bool
-all c = starts c || stops c || takes_over c
+abbrev starts_stops_or_takes_over : Command → Bool
+starts_stops_or_takes_over c = starts c || stops c || takes_over c
 
 abbrev pub table : Mode → Row
 table (Jog j) = row runs_or_stops false false true false false
@@ -69,7 +69,7 @@ table AxisOff = row starts true false false false false
 table Reference = row starts false false false false false
 table Position = row starts_or_stops false true true true false
 table Relative = row runs_or_stops false true true true true
-table (Program p) = row all false true false false false
+table (Program p) = row starts_stops_or_takes_over false true false false false
 table OffsetTo = row starts false false false true false
 table OffsetBy = row starts false false false true false
 table ClearOffset = row starts false false false false false

@@ -1,5 +1,5 @@
 -- The questions to an order, in their order, each with its fault; and what an accepted order does.
-use Rattle.std.specs.Prelude.{ℕ, Bool, true, false, cond, not, ◌||◌, [], ◌∷◌, ℤ, pos, ◌+ℤ◌, ◌-ℤ◌, is_some, Some, None, Ok, Err, Option, Result}
+use Rattle.std.specs.Prelude.{ℕ, Bool, true, false, cond, not, ◌||◌, [], ◌∷◌, ℤ, pos, ◌+ℤ◌, ◌-ℤ◌, is_some, Some, None, Ok, Option, Result}
 use Rattle.units.specs.declared.Measure.{Measure}
 use Rattle.units.specs.declared.Measure.TheVariants.{Millimetre, Inch, Degree}
 use Rattle.drives.specs.Meaning.{Meaning}
@@ -163,35 +163,9 @@ abbrev pub plan_for : Option Mode → Order → Meaning → Status → Plan
 plan_for None o m s = OnlyClear
 plan_for (Some mode) o m s = cond (stops o.command) Halt (standing_plan mode o m s.machine s.work)
 
--- 18 to 21, then the move
-abbrev pub go_verdict : RawData → ℕ → ℤ → Meaning → ℤ → Bool → Result Plan Cause
-go_verdict d rate target m zero referenced = move_questions d rate target m zero referenced asks Ok (Go (aim_for d rate target m zero))
-
--- 14, 15, then the program; 16, 17, 21, then what is held
-abbrev pub start_verdict : RawData → Order → Programs → Result Plan Cause
-start_verdict d o p = start_questions d o p asks Ok (Begin o.byte)
-
-abbrev pub resume_verdict : RawData → Programs → Meaning → Phase → ℤ → Result Plan Cause
-resume_verdict d p m phase zero = resume_questions p m phase asks Ok (resume_plan d m phase zero)
-
--- 22, then the value
-abbrev pub shift_verdict : ℤ → Result ℤ Cause
-shift_verdict z = shift_questions z asks Ok z
-
--- 7, without machine data
-abbrev pub bare_verdict : Mode → Result Plan Cause
-bare_verdict mode = cond (bare mode) (Ok (bare_plan mode)) (Err NoMachineData)
-
 -- what an order is answered in a mode, if its number has one: the first no, else its plan
 abbrev pub verdict_in : Option Mode → Order → Programs → Meaning → Status → Result Plan Cause
 verdict_in mode o p m s = order_questions mode o p m s asks Ok (plan_for mode o m s)
 
 abbrev pub verdict : Order → Programs → Meaning → Status → Result Plan Cause
 verdict o p m s = verdict_in (mode_of o.mode) o p m s
-
--- the same from question 7 on, and from the mode's own
-abbrev pub standing_verdict : Mode → Order → Programs → Meaning → Status → Result Plan Cause
-standing_verdict mode o p m s = standing_questions mode o p m s.machine s.work asks Ok (standing_plan mode o m s.machine s.work)
-
-abbrev pub mode_verdict : Mode → Order → Programs → Meaning → RawData → Work → Result Plan Cause
-mode_verdict mode o p m d w = mode_questions mode o p m d w asks Ok (mode_plan mode o m d w)

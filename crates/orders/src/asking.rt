@@ -1,10 +1,13 @@
-ghost use Rattle.std.specs.Prelude.{◌≡◌, cond, ◌+ℤ◌, ◌-ℤ◌, Some};
+ghost use Rattle.std.specs.Prelude.{◌≡◌, cond, ◌+ℤ◌, ◌-ℤ◌, Some, Ok, Err};
 ghost use Rattle.motion.specs.Places.{rate_by};
 ghost use Rattle.motion.specs.Travel.{Going};
+ghost use Rattle.states.specs.Moves.{◌asks◌, move_questions, aim_for};
 ghost use Rattle.states.specs.View.{status_of, work_of, phase_of};
-ghost use Rattle.orders.specs.Modes.{goes_forward};
+ghost use Rattle.states.specs.declared.fault.Cause.TheVariants.{NoMachineData};
+ghost use Rattle.orders.specs.Modes.{bare, goes_forward};
 ghost use Rattle.orders.specs.Orders.{Answers};
-ghost use Rattle.orders.specs.Questions.{verdict, verdict_in, standing_verdict, mode_verdict, bare_verdict, go_verdict, jog_target, position_target, relative_target, start_verdict, resume_verdict, shift_verdict};
+ghost use Rattle.orders.specs.Questions.{jog_target, position_target, relative_target, start_questions, resume_questions, shift_questions, mode_questions, standing_questions, resume_plan, mode_plan, bare_plan, standing_plan, verdict_in, verdict};
+ghost use Rattle.orders.specs.declared.plan.Plan.TheVariants.{Go, Begin};
 
 use crate::modes::{admits, needs_reference, values_fit};
 use crate::plan::{Accepted, Plan};
@@ -51,7 +54,7 @@ impl Request<'_> {
 
     // 7, 12 and 13, then the mode's own questions.
     fn ask_standing(&self, mode: Mode) -> Result<Plan, Cause>
-        ensures { result ≡ standing_verdict mode self.now.order self.now.store.now self.now.reading (status_of self.now.axis.now) }
+        ensures { let s = status_of self.now.axis.now in result ≡ (standing_questions mode self.now.order self.now.store.now self.now.reading s.machine s.work asks Ok (standing_plan mode self.now.order self.now.reading s.machine s.work)) }
     {
         let Some(view) = self.axis.view(self.reading) else {
             return ask_bare(mode);
@@ -73,7 +76,7 @@ impl Request<'_> {
 
 // Without machine data.
 fn ask_bare(mode: Mode) -> Result<Plan, Cause>
-    ensures { result ≡ bare_verdict mode }
+    ensures { result ≡ cond (bare mode) (Ok (bare_plan mode)) (Err NoMachineData) }
 {
     match mode {
         Mode::AxisOff => Ok(Plan::OnlyMode),
@@ -92,7 +95,7 @@ struct StandingRequest<'a> {
 
 impl StandingRequest<'_> {
     fn ask(&self, mode: Mode) -> Result<Plan, Cause>
-        ensures { (g : Going) → result ≡ mode_verdict mode self.now.order self.now.store.now self.now.view.reading self.now.view.machine.now (work_of g self.now.view.work.now) }
+        ensures { (g : Going) → let d = self.now.view.machine.now in let w = work_of g self.now.view.work.now in result ≡ (mode_questions mode self.now.order self.now.store.now self.now.view.reading d w asks Ok (mode_plan mode self.now.order self.now.view.reading d w)) }
     {
         match mode {
             Mode::AxisOff => Ok(Plan::OnlyMode),
@@ -113,7 +116,7 @@ impl StandingRequest<'_> {
 
     // 18 to 21.
     fn go(&self, wish: Wish) -> Result<Plan, Cause>
-        ensures { result ≡ go_verdict self.now.view.machine.now wish.rate wish.target self.now.view.reading self.now.view.work.now.zero self.now.view.work.now.referenced }
+        ensures { let v = self.now.view in result ≡ (move_questions v.machine.now wish.rate wish.target v.reading v.work.now.zero v.work.now.referenced asks Ok (Go (aim_for v.machine.now wish.rate wish.target v.reading v.work.now.zero))) }
     {
         Ok(Plan::Go(self.view.ask_move(wish)?))
     }
@@ -189,7 +192,7 @@ impl StandingRequest<'_> {
 
     // 14 and 15.
     fn ask_start(&self) -> Result<Plan, Cause>
-        ensures { result ≡ start_verdict self.now.view.machine.now self.now.order self.now.store.now }
+        ensures { result ≡ (start_questions self.now.view.machine.now self.now.order self.now.store.now asks Ok (Begin self.now.order.byte)) }
     {
         let program = self.order.byte;
         let measure = self.store.measure_of(program).ok_or(Cause::NotStored)?;
@@ -201,7 +204,7 @@ impl StandingRequest<'_> {
 
     // 16 and 17, and 21 where a target is unfinished.
     fn ask_resume(&self) -> Result<Plan, Cause>
-        ensures { (g : Going) → result ≡ resume_verdict self.now.view.machine.now self.now.store.now self.now.view.reading (phase_of g self.now.view.work.now.state) self.now.view.work.now.zero }
+        ensures { (g : Going) → let v = self.now.view in let p = phase_of g v.work.now.state in result ≡ (resume_questions self.now.store.now v.reading p asks Ok (resume_plan v.machine.now v.reading p v.work.now.zero)) }
     {
         let State::Held(hold) = self.view.work.state else {
             return Err(Cause::NothingHeld);
@@ -220,7 +223,7 @@ impl StandingRequest<'_> {
 
 // 22, of a value of the shift.
 fn ask_shift(units: i64) -> Result<i32, Cause>
-    ensures { result ≡ shift_verdict units }
+    ensures { result ≡ (shift_questions units asks Ok units) }
 {
     Span::REACH.within(units).ok_or(Cause::ShiftOutside)
 }
