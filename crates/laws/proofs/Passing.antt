@@ -3,7 +3,6 @@ use Rattle.std.proofs.Common.{◌≡◌, ℕ, ◌-◌, ◌≤◌, Bool, true, �
 use Rattle.std.proofs.lemmas.Int.{ints, clamps}
 use Rattle.drives.specs.Meaning.{Meaning, Sound, at}
 use Rattle.drives.specs.Sending.{told}
-use Rattle.laws.proofs.Sent.{gone, Within, all-sent, all_told}
 use Rattle.motion.specs.declared.raw.RawData.{RawData}
 use Rattle.motion.specs.Data.{InRange}
 use Rattle.motion.specs.Ramp.{Ramp, ramp_of}
@@ -16,6 +15,7 @@ use Rattle.states.specs.State.{Travel}
 use Rattle.states.specs.Moves.{placed_in, direction_of}
 use Rattle.ticks.specs.Moving.{with_going, sent_on}
 use Rattle.laws.specs.Kept.{InLimits, along, began_at, OnWay}
+use Rattle.laws.proofs.Sent.{Within, all-sent, all_told}
 
 -- what a tick may make of a move in progress: the whole stays, no more is left than before, and it can still be braked
 pub record Follows (f : Ramp) (g h : Going) : Type 0 where
@@ -30,20 +30,16 @@ pub braked_follows : (f : Ramp) (g : Going) → Safe f g → Follows f g (braked
 braked_follows f g s = record { total = refl; less = omega arith; safe = (stays-safe f).2 g s }
 
 -- by the distance D to T: the count after the pulses from a to b of the way
-gone_on_lem : (D : ℤ) (m : Meaning) (zero T : ℤ) (a b : ℕ) → m.count -ℤ zero ≡ (T -ℤ D) +ℤ along D a → a ≤ b
-    → gone (direction_of D) (b - a) m -ℤ zero ≡ (T -ℤ D) +ℤ along D b
-gone_on_lem (pos n) m zero T a b e h = omega (arith, ints)
-gone_on_lem (negsuc n) m zero T a b e h = omega (arith, ints)
+on_by : (D : ℤ) (m : Meaning) (zero T : ℤ) (a b : ℕ) → m.count -ℤ zero ≡ (T -ℤ D) +ℤ along D a → a ≤ b
+    → (m.count +ℤ along D (b - a)) -ℤ zero ≡ (T -ℤ D) +ℤ along D b
+on_by (pos n) m zero T a b e h = omega (arith, ints)
+on_by (negsuc n) m zero T a b e h = omega (arith, ints)
 
 -- they have room, as T is within the ends
-has_room : (D : ℤ) (m : Meaning) (zero T : ℤ) (a b : ℕ) → m.count -ℤ zero ≡ (T -ℤ D) +ℤ along D a → a ≤ b → b ≤ nat_abs D
-    → m.least ≤ℤ (zero +ℤ T) → (zero +ℤ T) ≤ℤ m.greatest → Within (direction_of D) (b - a) m
-has_room (pos n) m zero T a b e h k l u = omega (arith, ints)
-has_room (negsuc n) m zero T a b e h k l u = omega (arith, ints)
-
--- the drive stays within its ends
-sound_at : (D : ℤ) (m : Meaning) (k : ℕ) → Sound m → Within (direction_of D) k m → Sound (at (gone (direction_of D) k m) m)
-sound_at D m k s w = record { floor = s.floor; low = grind (arith, ints); high = grind (arith, ints); ceiling = s.ceiling }
+has_room : (D : ℤ) (m : Meaning) (zero T : ℤ) (a b : ℕ) → Sound m → m.count -ℤ zero ≡ (T -ℤ D) +ℤ along D a → a ≤ b
+    → b ≤ nat_abs D → m.least ≤ℤ (zero +ℤ T) → (zero +ℤ T) ≤ℤ m.greatest → Within D (b - a) m
+has_room (pos n) m zero T a b s e h k l u = (omega (arith, ints, s.low), omega (arith, ints))
+has_room (negsuc n) m zero T a b s e h k l u = (omega (arith, ints), omega (arith, ints, s.high))
 
 -- a tick from t to g of a move on its way, by a drive that is ready
 module _ (d : RawData) (m : Meaning) (zero : ℤ) (r : Bool) (t : Travel) (g : Going) (s : Sound m) (ready : m.ready ≡ true)
@@ -51,27 +47,27 @@ module _ (d : RawData) (m : Meaning) (zero : ℤ) (r : Bool) (t : Travel) (g : G
   grows : passed_in t.going ≤ passed_in g
   grows = omega (arith, f.total, f.less)
 
-  roomy : Within (direction_of t.distance) (passing t.going g).pulses m
+  roomy : Within t.distance (passing t.going g).pulses m
   roomy =
-      has_room t.distance m zero (pulses_by d t.target) (passed_in t.going) (passed_in g) o.gone grows
+      has_room t.distance m zero (pulses_by d t.target) (passed_in t.going) (passed_in g) s o.gone grows
       (omega (arith, f.total, o.whole)) o.target.ends.0 o.target.ends.1
 
   -- every pulse is taken
   pub taken : told (direction_of t.distance) (passing t.going g).pulses m ≡ Ok tt
-  taken = all_told (direction_of t.distance) (passing t.going g).pulses m s ready roomy
+  taken = all_told t.distance (passing t.going g).pulses m s ready roomy
 
   -- the drive is as it was, but for its count
-  pub sent-at : sent_on t g m ≡ at (gone (direction_of t.distance) (passing t.going g).pulses m) m
-  sent-at = all-sent (direction_of t.distance) (passing t.going g).pulses m s ready roomy
+  pub sent-at : sent_on t g m ≡ at (m.count +ℤ along t.distance (passing t.going g).pulses) m
+  sent-at = all-sent t.distance (passing t.going g).pulses m s ready roomy
 
   pub sound_on : Sound (sent_on t g m)
-  sound_on = rw sent-at (sound_at t.distance m (passing t.going g).pulses s roomy)
+  sound_on = rw sent-at (record { floor = s.floor; low = roomy.0; high = roomy.1; ceiling = s.ceiling })
 
   -- the move stays on its way
   pub way_on : OnWay d (sent_on t g m) zero r (with_going g t)
   way_on = rw sent-at (record {
     began = o.began;
-    gone = gone_on_lem t.distance m zero (pulses_by d t.target) (passed_in t.going) (passed_in g) o.gone grows;
+    gone = on_by t.distance m zero (pulses_by d t.target) (passed_in t.going) (passed_in g) o.gone grows;
     whole = f.total ∙ o.whole;
     safe = f.safe;
     target = record { ends = o.target.ends; limits = o.target.limits };

@@ -1,5 +1,6 @@
 -- Machine data that are not refused are in range and agree.
 use Rattle.std.proofs.Common.{◌≡◌, Bool, true, false, cond, ◌&&◌, Some, None, Option, refl, rules, Decides}
+use Rattle.std.proofs.lemmas.Bool.Decides.{Decides-and}
 use Rattle.motion.specs.declared.raw.RawData.{RawData}
 use Rattle.motion.specs.declared.fault.DataFault.{DataFault}
 use Rattle.motion.specs.declared.fault.DataFault.TheVariants.{OutOfRange, Disagree}
@@ -20,23 +21,16 @@ signal_fits d = search rules
 gear_fits : (d : RawData) → Decides (gear d) (Gear d)
 gear_fits d = search rules
 
--- five tests that hold, with what each decides
-five : (a b c d e : Bool) (A B C D E : Type 0) → Decides a A → Decides b B → Decides c C → Decides d D → Decides e E
-    → (a && b && c && d && e) ≡ true → A × B × C × D × E
-five true true true true true A B C D E p q r s t h = (p.0 refl, q.0 refl, r.0 refl, s.0 refl, t.0 refl)
-five true true true true false A B C D E p q r s t h = cc
-five true true true false e A B C D E p q r s t h = cc
-five true true false d e A B C D E p q r s t h = cc
-five true false c d e A B C D E p q r s t h = cc
-five false b c d e A B C D E p q r s t h = cc
-
 -- data that pass the range tests are in range
 ranges_by : (d : RawData) → in_range d ≡ true → InRange d
 ranges_by d h =
-    five (frequencies d) (signal d) (gear d) (limits d) (offsets d) (Frequencies d) (Signal d) (Gear d) (Limits d) (Offsets d)
-    (frequencies_fit d) (signal_fits d) (gear_fits d) (limits_decides d) (offsets_decides d) h
+    let f = Decides-and (frequencies d) (signal d) (frequencies_fit d) (signal_fits d) in
+    let g = Decides-and (frequencies d && signal d) (gear d) f (gear_fits d) in
+    let l = Decides-and (frequencies d && signal d && gear d) (limits d) g (limits_decides d) in
+    let all = (Decides-and (frequencies d && signal d && gear d && limits d) (offsets d) l (offsets_decides d)).0 h in
+    (all.0.0.0.0, all.0.0.0.1, all.0.0.1, all.0.1, all.1)
 
--- data that pass the agreement tests agree
+-- the agreement tests
 agree_decides : (d : RawData) → Decides (agree d) (Agree d)
 agree_decides d = search rules
 

@@ -1,25 +1,23 @@
--- Pulses that a drive is sent and that all have room: each is accepted.
-use Rattle.std.proofs.Common.{◌≡◌, ℕ, zero, suc, true, pos, neg_ℤ, ℤ, ◌+ℤ◌, ◌≤ℤ◌, Ok, refl, arith}
+-- Pulses of a move that all have room: each is accepted.
+use Rattle.std.proofs.Common.{◌≡◌, ℕ, zero, suc, true, pos, negsuc, ℤ, ◌+ℤ◌, ◌≤ℤ◌, Ok, refl, arith}
 use Rattle.std.proofs.lemmas.Int.{ints}
-use Rattle.drives.specs.declared.direction.Direction.{Direction}
-use Rattle.drives.specs.declared.direction.Direction.TheVariants.{Forward, Backward}
 use Rattle.drives.specs.Meaning.{Meaning, Sound, at}
 use Rattle.drives.specs.Sending.{sent, told}
 use Rattle.drives.proofs.Sends.{reach}
+use Rattle.states.specs.Moves.{direction_of}
+use Rattle.laws.specs.Kept.{along}
 
--- the count after k accepted pulses
-abbrev pub gone : Direction → ℕ → Meaning → ℤ
-gone Forward k m = m.count +ℤ pos k
-gone Backward k m = m.count +ℤ neg_ℤ (pos k)
+-- k pulses along a distance D have room
+abbrev pub Within : ℤ → ℕ → Meaning → Type 0
+Within D k m = (m.least ≤ℤ (m.count +ℤ along D k)) × ((m.count +ℤ along D k) ≤ℤ m.greatest)
 
--- k pulses have room
-abbrev pub Within : Direction → ℕ → Meaning → Type 0
-Within Forward k m = (m.count +ℤ pos k) ≤ℤ m.greatest
-Within Backward k m = m.least ≤ℤ (m.count +ℤ neg_ℤ (pos k))
+pub all-sent : (D : ℤ) (k : ℕ) (m : Meaning) → Sound m → m.ready ≡ true → Within D k m
+    → sent (direction_of D) k m ≡ at (m.count +ℤ along D k) m
+all-sent (pos n) k m s h w = rw (reach (direction_of (pos n)) k m s) (grind (arith, ints))
+all-sent (negsuc n) k m s h w = rw (reach (direction_of (negsuc n)) k m s) (grind (arith, ints))
 
-pub all-sent : (d : Direction) (k : ℕ) (m : Meaning) → Sound m → m.ready ≡ true → Within d k m → sent d k m ≡ at (gone d k m) m
-all-sent d k m s h w = rw (reach d k m s) (grind (arith, ints))
-
-pub all_told : (d : Direction) (k : ℕ) (m : Meaning) → Sound m → m.ready ≡ true → Within d k m → told d k m ≡ Ok tt
-all_told d zero m s h w = refl
-all_told d (suc k) m s h w = rw (reach d k m s) (grind (arith, ints))
+pub all_told : (D : ℤ) (k : ℕ) (m : Meaning) → Sound m → m.ready ≡ true → Within D k m
+    → told (direction_of D) k m ≡ Ok tt
+all_told D zero m s h w = refl
+all_told (pos n) (suc k) m s h w = rw (reach (direction_of (pos n)) k m s) (grind (arith, ints))
+all_told (negsuc n) (suc k) m s h w = rw (reach (direction_of (negsuc n)) k m s) (grind (arith, ints))
