@@ -1,5 +1,6 @@
 pub mod Asked
 pub mod Sent
+pub mod Doing
 pub mod NewMove
 pub mod Passing
 pub mod Taking
@@ -12,13 +13,11 @@ pub mod Plans
 pub mod Numbers
 pub mod Ordered
 pub mod Invariant
-pub mod Offsets
-pub mod TickShifts
+pub mod OrderValues
+pub mod TickValues
 pub mod Shifts
 pub mod Brakes
 pub mod Stops
-pub mod Zeroing
 pub mod Referencing
-pub mod TickZeroes
 pub mod Reckoning
 pub mod Shown

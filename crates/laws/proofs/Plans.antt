@@ -14,6 +14,7 @@ use Rattle.states.specs.Courses.{opening}
 use Rattle.states.specs.Effects.{set_off}
 use Rattle.orders.specs.Effects.{taken, taken_over, zeroed, with_offset, with_tool, gone_on}
 use Rattle.laws.specs.Kept.{Attainable, KeptIn, KeptWith}
+use Rattle.laws.proofs.Doing.{doing_keeps}
 use Rattle.laws.proofs.NewMove.{new_move}
 use Rattle.laws.proofs.Refusing.{Holds}
 
@@ -48,35 +49,25 @@ module _ (mode : ℕ) (d : RawData) (m : Meaning) (w : Work) (k : KeptWith d m w
 
   -- another Z
   pub offset_holds : (z : ℤ) → Holds (Some d) m (with_offset z (taken mode w))
-  offset_holds z =
-      (record { range = k.range; agree = k.agree; drift = k.drift; limits = k.limits; doing = tt }, λ n. (refl, refl))
+  offset_holds z = (doing_keeps d m w k tt, λ n. (refl, refl))
 
   -- another T
   pub tool_holds : (t : ℤ) → Holds (Some d) m (with_tool t (taken mode w))
-  tool_holds t =
-      (record { range = k.range; agree = k.agree; drift = k.drift; limits = k.limits; doing = tt }, λ n. (refl, refl))
+  tool_holds t = (doing_keeps d m w k tt, λ n. (refl, refl))
 
   -- the axis without its program
   taken_with : KeptWith d m (taken mode w)
-  taken_with = record { range = k.range; agree = k.agree; drift = k.drift; limits = k.limits; doing = tt }
+  taken_with = doing_keeps d m w k tt
 
   -- with it
   over_with : KeptWith d m (taken_over mode w)
-  over_with = record { range = k.range; agree = k.agree; drift = k.drift; limits = k.limits; doing = k.doing }
+  over_with = doing_keeps d m w k k.doing
 
   -- a move to a target that can be attained
   pub go_holds : (rate : ℕ) (target : ℤ) → Attainable d m w.zero w.referenced target
       → Holds (Some d) m (set_off (Some d) (aim_for d rate target m w.zero) None (taken mode w))
-  go_holds rate target a = (
-    record {
-      range = k.range;
-      agree = k.agree;
-      drift = k.drift;
-      limits = k.limits;
-      doing = new_move d m (taken mode w) rate target None taken_with a;
-    },
-    λ n. (refl, refl),
-  )
+  go_holds rate target a =
+      (doing_keeps d m w k (new_move d m (taken mode w) rate target None taken_with a), λ n. (refl, refl))
 
   -- a program, in mode 8 or 9 alone
   module _ (p : (eqb mode 8 || eqb mode 9) ≡ true) where
@@ -86,34 +77,16 @@ module _ (mode : ℕ) (d : RawData) (m : Meaning) (w : Work) (k : KeptWith d m w
 
     -- it begins
     pub begin_holds : (n : ℕ) → Holds (Some d) m (with_phase (between (opening n)) (taken mode w))
-    begin_holds n = (
-      record { range = k.range; agree = k.agree; drift = k.drift; limits = k.limits; doing = tt },
-      λ n. shown_there n,
-    )
+    begin_holds n = (doing_keeps d m w k tt, λ n. shown_there n)
 
     -- it goes on to its unfinished target
     pub resume_holds : (rate : ℕ) (target : ℤ) → Attainable d m w.zero w.referenced target
         → Holds (Some d) m (set_off (Some d) (aim_for d rate target m w.zero) (course_of w.phase) (taken_over mode w))
     resume_holds rate target a = (
-      record {
-        range = k.range;
-        agree = k.agree;
-        drift = k.drift;
-        limits = k.limits;
-        doing = new_move d m (taken_over mode w) rate target (course_of w.phase) over_with a;
-      },
+      doing_keeps d m w k (new_move d m (taken_over mode w) rate target (course_of w.phase) over_with a),
       λ n. shown_there n,
     )
 
     -- it goes on to its next block
     pub continue_holds : Holds (Some d) m (with_phase (gone_on w.phase) (taken_over mode w))
-    continue_holds = (
-      record {
-        range = k.range;
-        agree = k.agree;
-        drift = k.drift;
-        limits = k.limits;
-        doing = gone_keeps w.phase d m w.zero w.referenced k.doing;
-      },
-      λ n. shown_there n,
-    )
+    continue_holds = (doing_keeps d m w k (gone_keeps w.phase d m w.zero w.referenced k.doing), λ n. shown_there n)

@@ -19,8 +19,8 @@ use Rattle.laws.specs.Kept.{KeptBy}
 use Rattle.laws.specs.Reckoned.{data_after, data_next, data_given, zero_after, zero_given, reference_after, reference_given, Data, Zero, Reference, DriftBound, Limits}
 use Rattle.laws.proofs.Asked.{accepted}
 use Rattle.laws.proofs.Invariant.{invariant}
-use Rattle.laws.proofs.Zeroing.{accepted_zeroed}
-use Rattle.laws.proofs.TickZeroes.{Leaves, tick_leaves, tick_data}
+use Rattle.laws.proofs.OrderValues.{accepted_sets}
+use Rattle.laws.proofs.TickValues.{Leaves, tick_leaves, tick_data}
 
 -- an axis has these machine data, this count at zero and this reference
 abbrev Is : Option RawData → ℤ → Bool → Status → Type 0
@@ -55,16 +55,16 @@ order_is (Ok plan) x p a e =
     let m = a.drive in
     let s = a.status in
     let y = accepted (order_questions (mode_of x.mode) x p m s) (plan_for (mode_of x.mode) x m s) plan e in
-    let h = accepted_zeroed (mode_of x.mode) x p m s refl y.0 in
+    let h = accepted_sets (mode_of x.mode) x p m s refl y.0 in
     let at = λ (q : Plan). carried_out x.mode q m s.machine s.work in
-    (refl, sym (ap (λ (q : Plan). (at q).zero) y.1) ∙ h.0, sym (ap (λ (q : Plan). (at q).referenced) y.1) ∙ h.1)
+    (refl, sym (ap (λ (q : Plan). (at q).zero) y.1) ∙ h.2, sym (ap (λ (q : Plan). (at q).referenced) y.1) ∙ h.3)
 order_is (Err c) x p a e = (refl, refl, refl)
 
 -- a tick
 tick_is : (reply : Result (Unit {0}) AxisFault) (a : AxisState) (s : Status) → s.machine ≡ a.status.machine
     → Leaves reply a.status.work s.work → IsAfter ticking reply a s
-tick_is (Ok x) a s e l = (e, l.0, l.1)
-tick_is (Err f) a s e l = (e, l.0, l.1)
+tick_is (Ok x) a s e l = (e, l.2, l.3)
+tick_is (Err f) a s e l = (e, l.2, l.3)
 
 -- every act
 act_is : (act : Act) (p : Programs) (a : AxisState) → IsAfter act (act_reply act p a) a (act_step act p a).status

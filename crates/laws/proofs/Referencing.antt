@@ -24,7 +24,7 @@ use Rattle.ticks.specs.Moving.{after_move, stopped_short, ran, slowed}
 use Rattle.laws.specs.Kept.{Referenced}
 use Rattle.laws.proofs.Asked.{Yes}
 use Rattle.laws.proofs.Refusing.{stopped_course}
-use Rattle.laws.proofs.Zeroing.{program_zero}
+use Rattle.laws.proofs.OrderValues.{program_same}
 
 -- without a program nothing is asked
 pub no_program : {A : Type 0} → false ≡ true → A
@@ -67,7 +67,7 @@ module _ (o : Order) (p : Programs) (m : Meaning) (w : Work) (r : Referenced w) 
   mode_referenced d Reference y h = no_program h
   mode_referenced d Position y h = no_program h
   mode_referenced d Relative y h = no_program h
-  mode_referenced d (Program k) y h = (program_zero o m d w (takes_over o.command)).1 ∙ y.0
+  mode_referenced d (Program k) y h = (program_same o m d w (takes_over o.command)).3 ∙ y.0
   mode_referenced d OffsetTo y h = no_program h
   mode_referenced d OffsetBy y h = no_program h
   mode_referenced d ClearOffset y h = no_program h

@@ -7,6 +7,7 @@ use Rattle.states.specs.Faults.{cause_number}
 use Rattle.states.specs.State.{Phase, standing, moving, braking, held, between, Work, with_fault, with_phase, course_of, stopped}
 use Rattle.orders.specs.Effects.{taken, halted, refused_by}
 use Rattle.laws.specs.Kept.{KeptIn, KeptBy, Quiet}
+use Rattle.laws.proofs.Doing.{doing_keeps}
 
 -- what an axis keeps in its working values
 abbrev pub Holds : Option RawData → Meaning → Work → Type 0
@@ -32,31 +33,20 @@ stopped_course (between c) = refl
 -- with another fault all is kept
 fault_holds : (f : Option AxisFault) (o : Option RawData) (m : Meaning) (w : Work) → Holds o m w → Holds o m (with_fault f w)
 fault_holds f None m w h = (h.0, h.1)
-fault_holds f (Some d) m w h =
-    let k = h.0 in
-    (record { range = k.range; agree = k.agree; drift = k.drift; limits = k.limits; doing = k.doing }, h.1)
+fault_holds f (Some d) m w h = (doing_keeps d m w h.0 h.0.doing, h.1)
 
 -- a stop
 stop_holds : (o : Option RawData) (m : Meaning) (w : Work) → Holds o m w → Holds o m (with_phase (stopped w.phase) w)
 stop_holds None m w h = ((ap stopped h.0.0, h.0.1), λ n. let q = h.1 n in (q.0, stopped_course w.phase ∙ q.1))
-stop_holds (Some d) m w h =
-    let k = h.0 in (
-      record {
-        range = k.range;
-        agree = k.agree;
-        drift = k.drift;
-        limits = k.limits;
-        doing = stopped_keeps w.phase d m w.zero w.referenced k.doing;
-      },
-      λ n. let q = h.1 n in (q.0, stopped_course w.phase ∙ q.1),
-    )
+stop_holds (Some d) m w h = (
+  doing_keeps d m w h.0 (stopped_keeps w.phase d m w.zero w.referenced h.0.doing),
+  λ n. let q = h.1 n in (q.0, stopped_course w.phase ∙ q.1),
+)
 
 -- what is being done stays
 same_phase : (o : Option RawData) (m : Meaning) (w : Work) → Holds o m w → Holds o m (with_phase w.phase w)
 same_phase None m w h = h
-same_phase (Some d) m w h =
-    let k = h.0 in
-    (record { range = k.range; agree = k.agree; drift = k.drift; limits = k.limits; doing = k.doing }, h.1)
+same_phase (Some d) m w h = (doing_keeps d m w h.0 h.0.doing, h.1)
 
 -- by its number a fault stops the axis or not
 refused_by_number : (b : Bool) (o : Option RawData) (m : Meaning) (w : Work) → Holds o m w
@@ -81,6 +71,4 @@ clear_holds o m w h = fault_holds None o m w h
 -- an order that sets the mode
 pub mode_holds : (mode : ℕ) (o : Option RawData) (m : Meaning) (w : Work) → Holds o m w → Holds o m (taken mode w)
 mode_holds mode None m w h = ((refl, h.0.1), λ n. (refl, refl))
-mode_holds mode (Some d) m w h =
-    let k = h.0 in
-    (record { range = k.range; agree = k.agree; drift = k.drift; limits = k.limits; doing = tt }, λ n. (refl, refl))
+mode_holds mode (Some d) m w h = (doing_keeps d m w h.0 tt, λ n. (refl, refl))

@@ -16,18 +16,18 @@ use Rattle.orders.specs.Orders.{answered, left}
 use Rattle.states.specs.Mode.{mode_of}
 use Rattle.ticks.specs.Ticks.{tick_step, tick_reply}
 use Rattle.laws.specs.Acts.{Act, entering, deleting, ordering, levelling, ticking, Event, act_step, act_reply, step, new_axis, after}
-use Rattle.laws.specs.Laws.{offset_by, tool_by, offset_after, tool_after, offset_given, tool_given, is_accepted, Shift}
-use Rattle.laws.proofs.Offsets.{Same, accepted_shifts}
-use Rattle.laws.proofs.TickShifts.{tick_same}
+use Rattle.laws.specs.Laws.{offset_at, tool_at, offset_after, tool_after, offset_given, tool_given, is_accepted, Shift}
+use Rattle.laws.proofs.OrderValues.{accepted_sets}
+use Rattle.laws.proofs.TickValues.{tick_leaves}
 
 -- Z and T after an act, by whether it was accepted
 abbrev Given : Bool → ℤ → ℤ → Work → Work → Type 0
 Given b z t w v = (v.offset ≡ cond b z w.offset) × (v.tool ≡ cond b t w.tool)
 
 -- what leaves Z and T, accepted or not
-same_given : (b : Bool) (w v : Work) → Same w v → Given b w.offset w.tool w v
-same_given true w v s = s
-same_given false w v s = s
+same_given : (b : Bool) (w v : Work) → v.offset ≡ w.offset → v.tool ≡ w.tool → Given b w.offset w.tool w v
+same_given true w v e f = (e, f)
+same_given false w v e f = (e, f)
 
 -- an entry
 enter_given : (o : Option Cause) (d : RawData) (a : AxisState)
@@ -45,16 +45,16 @@ delete_given (Some c) a = (refl, refl)
 
 -- an order
 order_given : (v : Result Plan Cause) (o : Order) (p : Programs) (a : AxisState) → verdict o p a.drive a.status ≡ v
-    → Given (is_ok (answered o a.status.work.phase v)) (offset_by o a.status.work.offset) (tool_by o a.status.work.tool)
+    → Given (is_ok (answered o a.status.work.phase v)) (offset_at o.mode o.double a.status.work.offset) (tool_at o.mode o.double a.status.work.tool)
     a.status.work (left o a.drive a.status v).work
 order_given (Ok plan) o p a e =
     let m = a.drive in
     let s = a.status in
     let y = accepted (order_questions (mode_of o.mode) o p m s) (plan_for (mode_of o.mode) o m s) plan e in
-    let h = accepted_shifts (mode_of o.mode) o p m s refl y.0 in
-    let z = offset_by o s.work.offset in
-    let t = tool_by o s.work.tool in
-    subst (λ (x : Plan). Given true z t s.work (carried_out o.mode x m s.machine s.work)) y.1 h
+    let h = accepted_sets (mode_of o.mode) o p m s refl y.0 in
+    let z = offset_at o.mode o.double s.work.offset in
+    let t = tool_at o.mode o.double s.work.tool in
+    subst (λ (x : Plan). Given true z t s.work (carried_out o.mode x m s.machine s.work)) y.1 (h.0, h.1)
 order_given (Err cause) o p a e = (refl, refl)
 
 -- every act
@@ -66,7 +66,8 @@ act_given deleting p a = delete_given (delete_no a.status) a
 act_given (ordering o) p a = order_given (verdict o p a.drive a.status) o p a refl
 act_given (levelling begin end ready) p a = (refl, refl)
 act_given ticking p a =
-    same_given (is_ok (tick_reply p a)) a.status.work (tick_step p a).status.work (tick_same a.status.work.phase p a)
+    let l = tick_leaves a.status.work.phase p a in
+    same_given (is_ok (tick_reply p a)) a.status.work (tick_step p a).status.work l.0 l.1
 
 -- Z and T after a run
 run_given : (es : List Event) (a : AxisState) (z t : ℤ) → a.status.work.offset ≡ z → a.status.work.tool ≡ t

@@ -68,26 +68,26 @@ Braking = (m : Meaning) → Sound m → (before later : List Event) (a : AxisSta
 
 -- THE SHIFT
 
--- what an order does to Z and to T where it is accepted: 12 gives an absolute value, 13 a relative one, 14 zero; 15 a tool
--- value, 16 zero
-abbrev pub offset_by : Order → ℤ → ℤ
-offset_by o z = cond (o.mode == 12) o.double (cond (o.mode == 13) (z +ℤ o.double) (cond (o.mode == 14) (pos 0) z))
+-- what an accepted order of mode n with the double word x does to Z and to T: 12 gives an absolute value, 13 a relative one,
+-- 14 zero; 15 a tool value, 16 zero
+abbrev pub offset_at : ℕ → ℤ → ℤ → ℤ
+offset_at n x z = cond (n == 12) x (cond (n == 13) (z +ℤ x) (cond (n == 14) (pos 0) z))
 
-abbrev pub tool_by : Order → ℤ → ℤ
-tool_by o t = cond (o.mode == 15) o.double (cond (o.mode == 16) (pos 0) t)
+abbrev pub tool_at : ℕ → ℤ → ℤ → ℤ
+tool_at n x t = cond (n == 15) x (cond (n == 16) (pos 0) t)
 
 -- the values that a run has given, from the acts and whether each was accepted; entering and deleting machine data give zeros
 abbrev pub offset_after : Act → ℤ → ℤ
 offset_after (entering d) z = pos 0
 offset_after deleting z = pos 0
-offset_after (ordering o) z = offset_by o z
+offset_after (ordering o) z = offset_at o.mode o.double z
 offset_after (levelling begin end ready) z = z
 offset_after ticking z = z
 
 abbrev pub tool_after : Act → ℤ → ℤ
 tool_after (entering d) t = pos 0
 tool_after deleting t = pos 0
-tool_after (ordering o) t = tool_by o t
+tool_after (ordering o) t = tool_at o.mode o.double t
 tool_after (levelling begin end ready) t = t
 tool_after ticking t = t
 
