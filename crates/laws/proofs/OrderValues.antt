@@ -1,5 +1,5 @@
 -- What an accepted order does to Z, T, the count at zero and the reference: its mode alone sets them.
-use Rattle.std.proofs.Common.{◌≡◌, ℕ, Bool, true, false, cond, eqb, ℤ, pos, ◌+ℤ◌, [], ◌∷◌, Some, None, Option, refl, subst}
+use Rattle.std.proofs.Common.{◌≡◌, ℕ, Bool, true, false, cond, eqb, ℤ, [], ◌∷◌, Some, None, Option, refl, subst}
 use Rattle.std.proofs.lemmas.Bool.{false≢true}
 use Rattle.drives.specs.Meaning.{Meaning}
 use Rattle.motion.specs.declared.raw.RawData.{RawData}

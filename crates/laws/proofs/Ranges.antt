@@ -4,7 +4,7 @@ use Rattle.std.proofs.lemmas.Bool.Decides.{Decides-and}
 use Rattle.motion.specs.declared.raw.RawData.{RawData}
 use Rattle.motion.specs.declared.fault.DataFault.{DataFault}
 use Rattle.motion.specs.declared.fault.DataFault.TheVariants.{OutOfRange, Disagree}
-use Rattle.motion.specs.Data.{Frequencies, Signal, Gear, Limits, Offsets, InRange, Agree}
+use Rattle.motion.specs.Data.{Frequencies, Signal, Gear, InRange, Agree}
 use Rattle.motion.specs.Questions.{frequencies, signal, gear, limits, offsets, in_range, agree, refusal}
 use Rattle.motion.proofs.Questions.{limits_decides, offsets_decides}
 use Rattle.states.specs.Entry.{data_cause, data_refusal}

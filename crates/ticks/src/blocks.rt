@@ -1,4 +1,4 @@
-ghost use Rattle.std.specs.Prelude.{◌≡◌, ◌<◌, ◌≤◌, ◌+ℤ◌, unsigned_abs};
+ghost use Rattle.std.specs.Prelude.{◌≡◌, ◌<◌, ◌+ℤ◌};
 ghost use Rattle.motion.specs.Travel.{Going};
 ghost use Rattle.states.specs.Shift.{offset_by};
 ghost use Rattle.states.specs.Courses.{course_rate};
