@@ -130,9 +130,8 @@ def judge(status, out):
     if status == 0:
         return "passes", ""
     first = next((l for l in out.split("\n") if re.search(r"\berror|no proof:|not proved|cannot ", l)), out.strip()[-200:])
-    reached = re.findall(r"^(?:checked|checking) (\S+?),", out, re.M)
     source = re.search(r"^(?:error\[|(?:\./)?src/\S+: error(?:\[|: (?:expected|unknown|mismatched))|rattle: .*src/)", out, re.M)
-    return ("not-source" if source else "refused"), (f"{reached[-1]}: " if reached else "") + first[:240]
+    return ("not-source" if source else "refused"), first[:240]
 
 
 def main():
