@@ -1,7 +1,8 @@
 -- Several pulses: a refused one stops all that follow, and where the count comes to.
-use Rattle.std.proofs.Common.{◌≡◌, ℕ, zero, suc, ◌+◌, ◌-◌, ◌<◌, Err, Result, suc-add, add-one, arith}
+use Rattle.std.proofs.Common.{◌≡◌, ℕ, zero, suc, ◌+◌, ◌-◌, ◌<◌, true, ℤ, pos, ◌+ℤ◌, ◌≤ℤ◌, neg_ℤ, Ok, Err, Result, suc-add, add-one, refl, arith}
 use Rattle.std.proofs.lemmas.Int.{ints}
 use Rattle.drives.specs.declared.direction.Direction.{Direction}
+use Rattle.drives.specs.declared.direction.Direction.TheVariants.{Forward, Backward}
 use Rattle.drives.specs.declared.fault.Refusal.{Refusal}
 use Rattle.drives.specs.Meaning.{Meaning, Sound, at, answered, pulsed}
 use Rattle.drives.specs.Sending.{sent, told, reached}
@@ -28,6 +29,23 @@ pub reach : (d : Direction) (k : ℕ) (m : Meaning) → Sound m → sent d k m �
 reach d zero m s = grind (arith, ints)
 reach d (suc k) m s = rw (reach d k m s) (grind (arith, ints))
 
+-- the count after k pulses that all have room
+abbrev pub gone : Direction → ℕ → Meaning → ℤ
+gone Forward k m = m.count +ℤ pos k
+gone Backward k m = m.count +ℤ neg_ℤ (pos k)
+
+abbrev pub Within : Direction → ℕ → Meaning → Type 0
+Within Forward k m = (m.count +ℤ pos k) ≤ℤ m.greatest
+Within Backward k m = m.least ≤ℤ (m.count +ℤ neg_ℤ (pos k))
+
+pub all-sent : (d : Direction) (k : ℕ) (m : Meaning) → Sound m → m.ready ≡ true → Within d k m → sent d k m ≡ at (gone d k m) m
+all-sent d k m s h w = rw (reach d k m s) (grind (arith, ints))
+
+pub all_told : (d : Direction) (k : ℕ) (m : Meaning) → Sound m → m.ready ≡ true → Within d k m → told d k m ≡ Ok tt
+all_told d zero m s h w = refl
+all_told d (suc k) m s h w = rw (reach d k m s) (grind (arith, ints))
+
+-- one pulse more
 pub sent-more : (d : Direction) (i : ℕ) (m : Meaning) → sent d (i + 1) m ≡ pulsed d (sent d i m)
 sent-more d i m = rw add-one
 
