@@ -15,6 +15,6 @@ units_in Millimetre = 1000
 units_in Inch = 10000
 units_in Degree = 1000
 
--- the two say the same
+-- one mm, inch or degree has as many units as the decimals of a unit give
 abbrev pub UnitsByPlaces : Type 0
 UnitsByPlaces = (m : Measure) → units_in m ≡ 10 ^ places m
