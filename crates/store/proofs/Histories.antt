@@ -14,8 +14,8 @@ use Rattle.store.specs.Closing.{closable}
 use Rattle.store.specs.Entry.{first_no, open_questions, opened, open_one, entered, added, closed, abandoned, deleted}
 use Rattle.store.specs.Laws.{Call, opening, adding, closing, abandoning, deleting, step, run, after, said, given, given_by, Stays, Entering, Stored}
 
-abbrev pub both : List Program → Option Program → Programs
-both ps o = record { stored = ps; entry = o }
+abbrev pub store_of : List Program → Option Program → Programs
+store_of ps o = record { stored = ps; entry = o }
 
 -- every one of some programs
 all_push : (P : Program → Type 0) (ps : List Program) (q : Program) → AllByRecursion P ps → P q → AllByRecursion P (ps ++ q ∷ [])
@@ -159,7 +159,7 @@ add_step cs n line h (Some p) e = add_open cs n line p h e (eqb p.number n) refl
 -- closing
 close_kept : (cs : List Call) (n : ℕ) (p : Program) → Held cs (after cs) → (after cs).entry ≡ Some p → eqb p.number n ≡ true → (k : Bool) → closable p.blocks ≡ k → Held (cs ++ closing n ∷ []) (closed n (after cs))
 close_kept cs n p h e b false k =
-    let becomes : closed n (after cs) ≡ both (after cs).stored None = cc in
+    let becomes : closed n (after cs) ≡ store_of (after cs).stored None = cc in
     subst (Held (cs ++ closing n ∷ [])) (sym becomes) (record {
       most = h.most;
       each = each_more cs (closing n) (after cs).stored h.each;
@@ -167,7 +167,7 @@ close_kept cs n p h e b false k =
     })
 close_kept cs n p h e b true k =
     let old : EntrySound cs (after cs).stored p = h.entry p e in
-    let becomes : closed n (after cs) ≡ both ((after cs).stored ++ p ∷ []) None = cc in
+    let becomes : closed n (after cs) ≡ store_of ((after cs).stored ++ p ∷ []) None = cc in
     let new : Stored (cs ++ closing n ∷ []) p = record {
       front = cs;
       later = [];
@@ -193,15 +193,15 @@ close_step cs n h (Some p) e = close_open cs n p h e (eqb p.number n) refl
 abandon_step : (cs : List Call) (n : ℕ) → Held cs (after cs) → (b : Bool) → open_one n (after cs).entry ≡ b → Held (cs ++ abandoning n ∷ []) (abandoned n (after cs))
 abandon_step cs n h false b = unchanged cs (abandoning n) h (cc) refl
 abandon_step cs n h true b =
-    let becomes : abandoned n (after cs) ≡ both (after cs).stored None = cc in
+    let becomes : abandoned n (after cs) ≡ store_of (after cs).stored None = cc in
     subst (Held (cs ++ abandoning n ∷ [])) (sym becomes) (record {
       most = h.most;
       each = each_more cs (abandoning n) (after cs).stored h.each;
       entry = λ q eq. cc;
     })
 
-delete_step_lem : (cs : List Call) (n : ℕ) → Held cs (after cs) → Held (cs ++ deleting n ∷ []) (deleted n (after cs))
-delete_step_lem cs n h =
+delete_step : (cs : List Call) (n : ℕ) → Held cs (after cs) → Held (cs ++ deleting n ∷ []) (deleted n (after cs))
+delete_step cs n h =
     let fewer : length (without n (after cs).stored) ≤ length (after cs).stored = length_without n (after cs).stored in
     record {
       most = omega (arith, fewer, h.most);
@@ -215,7 +215,7 @@ held-step cs (opening n m) h = open_step cs n m h (first_no (open_questions n (a
 held-step cs (adding n line) h = add_step cs n line h (after cs).entry refl
 held-step cs (closing n) h = close_step cs n h (after cs).entry refl
 held-step cs (abandoning n) h = abandon_step cs n h (open_one n (after cs).entry) refl
-held-step cs (deleting n) h = delete_step_lem cs n h
+held-step cs (deleting n) h = delete_step cs n h
 
 held_on : (cs ds : List Call) → Held cs (after cs) → Held (cs ++ ds) (after (cs ++ ds))
 held_on cs [] h = subst (λ z. Held z (after z)) (sym (append-nil cs)) h

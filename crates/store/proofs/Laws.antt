@@ -11,7 +11,7 @@ use Rattle.reader.specs.declared.fault.LineFault.TheVariants.{ProgramFull}
 use Rattle.store.specs.declared.fault.StoreFault.{StoreFault}
 use Rattle.store.specs.declared.fault.StoreFault.TheVariants.{StoreFull, Line}
 use Rattle.store.specs.Programs.{Program, Programs, found, without, read}
-use Rattle.store.specs.Closing.{ends, fits_at, none, each_fits, closable}
+use Rattle.store.specs.Closing.{ends, fits_at, is_empty, each_fits, closable}
 use Rattle.store.specs.Entry.{first_no, open_questions, open_reply, opened_unless, added_to, add_reply_to, closed_from, abandoned}
 use Rattle.store.specs.Laws.{Call, after, motion_after, EndsOnce, Fed, Runs, Changes}
 use Rattle.store.proofs.Histories.{Sound, held, all_found}
@@ -40,10 +40,10 @@ abbrev feed_after : Option ℕ → List Block → Option ℕ
 feed_after f [] = f
 feed_after f (b ∷ bs) = feed_after (option_or b.feed f) bs
 
-fits_there : (g : Motion) (f : Option ℕ) (front : List Block) (b : Block) (later : List Block) → each_fits g f (front ++ b ∷ later) ≡ true → fits_at (none later) (motion_after g (front ++ b ∷ [])) (feed_after f (front ++ b ∷ [])) b ≡ true
-fits_there g f [] b later e = (and_parts (fits_at (none later) (unwrap_or b.motion g) (option_or b.feed f) b) (each_fits (unwrap_or b.motion g) (option_or b.feed f) later) e).0
+fits_there : (g : Motion) (f : Option ℕ) (front : List Block) (b : Block) (later : List Block) → each_fits g f (front ++ b ∷ later) ≡ true → fits_at (is_empty later) (motion_after g (front ++ b ∷ [])) (feed_after f (front ++ b ∷ [])) b ≡ true
+fits_there g f [] b later e = (and_parts (fits_at (is_empty later) (unwrap_or b.motion g) (option_or b.feed f) b) (each_fits (unwrap_or b.motion g) (option_or b.feed f) later) e).0
 fits_there g f (x ∷ front) b later e =
-    fits_there (unwrap_or x.motion g) (option_or x.feed f) front b later (and_parts (fits_at (none (front ++ b ∷ later)) (unwrap_or x.motion g) (option_or x.feed f) x) (each_fits (unwrap_or x.motion g) (option_or x.feed f) (front ++ b ∷ later)) e).1
+    fits_there (unwrap_or x.motion g) (option_or x.feed f) front b later (and_parts (fits_at (is_empty (front ++ b ∷ later)) (unwrap_or x.motion g) (option_or x.feed f) x) (each_fits (unwrap_or x.motion g) (option_or x.feed f) (front ++ b ∷ later)) e).1
 
 abbrev GivenIn : List Block → Type 0
 GivenIn bs = (d : List Block) × (e : Block) × (f : List Block) × (bs ≡ d ++ e ∷ f) × (is_some e.feed ≡ true)
@@ -61,9 +61,9 @@ feed_there last g f b e x m = grind arith
 
 each_fed : (bs : List Block) → closable bs ≡ true → Fed bs
 each_fed bs e a b c split x g =
-    let all : each_fits Rapid None bs ≡ true = (and_parts (not (none bs)) (each_fits Rapid None bs) e).1 in
-    let here : fits_at (none c) (motion_after Rapid (a ++ b ∷ [])) (feed_after None (a ++ b ∷ [])) b ≡ true = fits_there Rapid None a b c (subst (λ z. each_fits Rapid None z ≡ true) split all) in
-    feed_in (a ++ b ∷ []) (feed_there (none c) (motion_after Rapid (a ++ b ∷ [])) (feed_after None (a ++ b ∷ [])) b here x g)
+    let all : each_fits Rapid None bs ≡ true = (and_parts (not (is_empty bs)) (each_fits Rapid None bs) e).1 in
+    let here : fits_at (is_empty c) (motion_after Rapid (a ++ b ∷ [])) (feed_after None (a ++ b ∷ [])) b ≡ true = fits_there Rapid None a b c (subst (λ z. each_fits Rapid None z ≡ true) split all) in
+    feed_in (a ++ b ∷ []) (feed_there (is_empty c) (motion_after Rapid (a ++ b ∷ [])) (feed_after None (a ++ b ∷ [])) b here x g)
 
 none_before : (a : List Block) (b : Block) (c : List Block) → [] ≡ a ++ b ∷ c → ends b ≡ false
 none_before [] b c e = cc

@@ -19,15 +19,15 @@ fed Feed x f = not x || f
 abbrev pub fits_at : Bool → Motion → Option ℕ → Block → Bool
 fits_at last g f b = cond (ends b) last (not last) && fed g (is_some b.target) (is_some f)
 
-abbrev pub none : List Block → Bool
-none [] = true
-none (b ∷ bs) = false
+abbrev pub is_empty : List Block → Bool
+is_empty [] = true
+is_empty (b ∷ bs) = false
 
 -- the motion group and the feed that hold in a block are its own words, else those before
 abbrev pub each_fits : Motion → Option ℕ → List Block → Bool
 each_fits g f [] = true
-each_fits g f (b ∷ bs) = fits_at (none bs) (unwrap_or b.motion g) (option_or b.feed f) b && each_fits (unwrap_or b.motion g) (option_or b.feed f) bs
+each_fits g f (b ∷ bs) = fits_at (is_empty bs) (unwrap_or b.motion g) (option_or b.feed f) b && each_fits (unwrap_or b.motion g) (option_or b.feed f) bs
 
 -- a program opens with G00 and without a feed
 abbrev pub closable : List Block → Bool
-closable bs = not (none bs) && each_fits Rapid None bs
+closable bs = not (is_empty bs) && each_fits Rapid None bs

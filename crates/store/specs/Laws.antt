@@ -99,7 +99,9 @@ pub record Kept (cs : List Call) : Type 0 where
   pub entered : (n : ℕ) (p : Program) → found n (after cs).stored ≡ Some p → Stored cs p
   pub ends_once : (n : ℕ) (p : Program) → found n (after cs).stored ≡ Some p → EndsOnce p.blocks
   pub fed : (n : ℕ) (p : Program) → found n (after cs).stored ≡ Some p → Fed p.blocks
+  -- 28 comes only with sixteen stored
   pub full : (n : ℕ) → open_reply n (after cs) ≡ Err (StoreFull n) → length (after cs).stored ≡ 16
+  -- a line is refused for want of room only with 64 blocks
   pub no_room : (n : ℕ) (line : List ℕ) → add_reply n line (after cs) ≡ Err (Line ProgramFull) → (p : Program) × ((after cs).entry ≡ Some p) × (length p.blocks ≡ 64)
 
 abbrev pub Runs : Type 0

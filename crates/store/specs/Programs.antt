@@ -1,4 +1,4 @@
--- A small store: the stored programs, in the order of their closing, and the open entry.
+-- What a store holds: the stored programs, in the order of their closing, and the open entry.
 use Rattle.std.specs.Prelude.{◌≡◌, ℕ, ◌<◌, cond, List, [], ◌∷◌, ◌++◌, length, Some, None, Ok, Err, remove, Option, Result, ◌==◌, nat_lt, slice_index_or, slice_get}
 use Rattle.units.specs.declared.Measure.{Measure}
 use Rattle.reader.specs.declared.block.Block.{Block}

@@ -25,7 +25,7 @@ fn may_close(blocks: &[Block]) -> bool
     let mut rest = blocks;
     while let Some((block, later)) = rest.split_first() {
         holding = holding.in_block(block);
-        if !holding.fit(block, later.is_empty()) {
+        if !holding.admits(block, later.is_empty()) {
             return false;
         }
         rest = later;
@@ -55,7 +55,7 @@ impl Holding {
 
     // Whether one block may stand there: the end in the last block and only
     // there, no X under G01 without a feed.
-    fn fit(self, block: &Block, last: bool) -> bool
+    fn admits(self, block: &Block, last: bool) -> bool
         ensures { result ≡ fits_at last self.motion self.feed block.now }
     {
         if ends_program(block.auxiliary) != last {

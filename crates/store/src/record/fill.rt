@@ -51,10 +51,10 @@ impl Record {
     }
 
     // The block at an index from 0.
-    pub(crate) fn block(&self, k: usize) -> Option<Block>
-        ensures value { result ≡ block_at self.now.blocks k }
-        ensures within { (b : Instruction) → result ≡ Some b → k < MOST_BLOCKS }
+    pub(crate) fn block(&self, index: usize) -> Option<Block>
+        ensures value { result ≡ block_at self.now.blocks index }
+        ensures within { (b : Instruction) → result ≡ Some b → index < MOST_BLOCKS }
     {
-        self.blocks.get(k).copied()
+        self.blocks.get(index).copied()
     }
 }

@@ -9,7 +9,7 @@ use units::Measure;
 
 // Each call on an entry has two forms, by token and by number: a token is spent
 // or handed back, a number is neither. The rules are in the calls by number.
-// Number and measure are what an opening says; no other call takes both.
+// An opening alone takes both a number and a measure, so they have no type of their own.
 impl Store {
     /// Opens the entry of a program and gives its token.
     pub fn open(&mut self, number: u8, measure: Measure) -> Result<Entry, StoreFault>

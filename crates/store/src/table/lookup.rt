@@ -17,11 +17,11 @@ impl Store {
     }
 
     /// The block of a stored program at an index from 0.
-    pub fn block(&self, number: u8, k: usize) -> Option<Block>
-        ensures value { result ≡ block_in (found number self.now.stored) k }
-        ensures within { (b : Instruction) → result ≡ Some b → k < 64 }
+    pub fn block(&self, number: u8, index: usize) -> Option<Block>
+        ensures value { result ≡ block_in (found number self.now.stored) index }
+        ensures within { (b : Instruction) → result ≡ Some b → index < 64 }
     {
-        self.find(number)?.block(k)
+        self.find(number)?.block(index)
     }
 
     // The record of a stored program.
