@@ -12,7 +12,7 @@ use Rattle.drives.proofs.Sends.{gone, Within, all-sent, all_told}
 room_below : (b : ℕ) (d f : Direction) (m : Meaning) → Sound m → fits b f m ≡ true → answered d (layer b f m) ≡ Ok tt → (m.ready ≡ true) × Within d (passed b d f) m
 room_below b d f m s h ok = grind (arith, ints)
 
--- and the flank leaves room for the play again
+-- and again it can go the whole play against the flank
 room_again : (b : ℕ) (d f : Direction) (m : Meaning) → Sound m → fits b f m ≡ true → answered d (layer b f m) ≡ Ok tt → fits b d (at (gone d (passed b d f) m) m) ≡ true
 room_again b d f m s h ok = grind (arith, ints)
 

@@ -14,7 +14,7 @@ lead b Backward = b
 abbrev pub above : ℕ → Direction → Meaning → Meaning
 above b f m = record { count = m.count +ℤ pos (lead b f); least = m.least +ℤ pos b; greatest = m.greatest; ready = m.ready }
 
--- does the drive below leave room for the play, on the side of the flank?
+-- can the drive below go the whole play against the flank?
 abbrev pub fits : ℕ → Direction → Meaning → Bool
 fits b Forward m = int_le (m.least +ℤ pos b) m.count
 fits b Backward m = int_le (m.count +ℤ pos b) m.greatest

@@ -21,7 +21,7 @@ impl ClockStage {
         })
     }
 
-    /// The direction level: that of the last pulse accepted.
+    /// The direction level: that of the last pulse accepted, forward before the first.
     pub fn direction(&self) -> Direction
         ensures { result ≡ self.now.direction }
     {

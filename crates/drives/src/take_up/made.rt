@@ -52,7 +52,7 @@ impl<D: Drive> TakeUp<D> {
         self.play
     }
 
-    /// The flank on which the screw bears: that of the last pulse accepted.
+    /// The flank on which the screw bears: that of the last pulse accepted, forward before the first.
     pub fn flank(&self) -> Direction
         ensures { result ≡ self.now.flank }
     {
