@@ -129,7 +129,8 @@ def check(folder):
 def judge(status, out):
     if status == 0:
         return "passes", ""
-    first = next((l for l in out.split("\n") if re.search(r"\berror|no proof:|not proved|cannot ", l)), out.strip()[-200:])
+    told = (l for l in out.split("\n") if re.search(r"\berror|no proof:|not proved|cannot ", l) and "waits for" not in l)
+    first = next(told, out.strip()[-200:])
     source = re.search(r"^(?:error\[|(?:\./)?src/\S+: error(?:\[|: (?:expected|unknown|mismatched))|rattle: .*src/)", out, re.M)
     return ("not-source" if source else "refused"), first[:240]
 
