@@ -23,6 +23,7 @@ from collections import defaultdict
 from pathlib import Path
 
 HEAD = re.compile(r"^\s*(?:pub(?:\([a-z]+\))? )?(?:const )?(?:extern \"C\" )?fn (\w+)")
+CONST = re.compile(r"^(?:pub(?:\([a-z]+\))? )?const (\w+): \w+ = \d")
 SKIP = re.compile(r"^\s*(//|#|ghost\b|use\b|pub use\b|mod\b|pub mod\b|requires\b|ensures\b|type\b|impl\b|pub trait\b|trait\b|invariant\b|decreases\b)")
 SWAPS = [
     ("comparison", r" <= ", " < "), ("comparison", r" < ", " <= "), ("comparison", r" >= ", " > "),
@@ -78,7 +79,7 @@ def edits_of(line, enums, others):
         yield "condition", f"{m[1]}!({m[2]}){m[3]}"
     for m in VARIANT.finditer(code):
         kinds = enums.get(m[1], [])
-        if m[2] in kinds and len(kinds) > 1:
+        if m[2] in kinds and len(kinds) > 1 and "=>" not in code[m.end():]:
             yield "variant", code[:m.start(2)] + kinds[(kinds.index(m[2]) + 1) % len(kinds)] + code[m.end(2):]
     for m in re.finditer(r"\.(\w+)\b(?!\()", code):
         for other in sorted(others.get(m[1], ())):
@@ -96,6 +97,8 @@ def all_edits(crate, only):
             if in_head:
                 in_head = line.strip() != "{"
                 continue
+            if m := CONST.match(line):
+                name = m[1]
             if not name or SKIP.match(line) or (only and only not in f"{path} {name}"):
                 continue
             for kind, new in edits_of(line, enums, others):
