@@ -1,8 +1,8 @@
 -- A move does not drift.
 use Rattle.std.proofs.Common.{◌≡◌, ℕ, suc, ◌*◌, ◌≤◌, max, ℤ, pos, negsuc, ◌+ℤ◌, ◌-ℤ◌, ◌*ℤ◌, nat_abs, ◌≤ℤ◌, ◌<ℤ◌, sym, refl, subst, mul-le-mul_right, arith}
-use Rattle.std.specs.Int.{int_min, int_max}
+use Rattle.std.specs.Int.{int_min, int_max, int_div_euclid}
 use Rattle.std.proofs.lemmas.Int.{ints, clamps, by_lt_z}
-use Rattle.motion.specs.Places.{floor_div, rounded_of, pulses_of, nearest_of, held}
+use Rattle.motion.specs.Places.{rounded_of, pulses_of, nearest_of, held}
 use Rattle.motion.specs.Laws.{Near, Between, Drift, Arrives, Held}
 
 mono : (a b : ℤ) (k : ℕ) → a ≤ℤ b → (a *ℤ pos k) ≤ℤ (b *ℤ pos k)
@@ -17,11 +17,11 @@ step (pos a) (negsuc b) k h = absurd (omega (arith, ints))
 step (negsuc a) (pos b) k h = omega (arith, ints)
 step (negsuc a) (negsuc b) k h = let j : suc (suc b) ≤ suc a = omega (arith, ints) in omega (arith, ints, mul-le-mul_right k j)
 
-floor-low : (z : ℤ) (d : ℕ) → 1 ≤ d → (floor_div z d *ℤ pos d) ≤ℤ z
+floor-low : (z : ℤ) (d : ℕ) → 1 ≤ d → (int_div_euclid z (pos d) *ℤ pos d) ≤ℤ z
 floor-low (pos a) d h = omega (arith, ints)
 floor-low (negsuc a) d h = omega (arith, ints)
 
-floor-high : (z : ℤ) (d : ℕ) → 1 ≤ d → z <ℤ (floor_div z d *ℤ pos d +ℤ pos d)
+floor-high : (z : ℤ) (d : ℕ) → 1 ≤ d → z <ℤ (int_div_euclid z (pos d) *ℤ pos d +ℤ pos d)
 floor-high (pos a) d h = omega (arith, ints)
 floor-high (negsuc a) d h = omega (arith, ints)
 

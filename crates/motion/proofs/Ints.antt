@@ -1,24 +1,20 @@
 -- Rounded quotients of signed products, and their bounds.
-use Rattle.std.proofs.Common.{◌≡◌, ℕ, ◌+◌, ◌*◌, ◌^◌, ◌<◌, ◌≤◌, ℤ, pos, negsuc, ◌+ℤ◌, ◌*ℤ◌, nat_abs, refl, div-le_self, arith, w32, w64, SFits}
+use Rattle.std.proofs.Common.{◌≡◌, ℕ, ◌+◌, ◌*◌, ◌^◌, ◌<◌, ◌≤◌, ℤ, pos, negsuc, ◌+ℤ◌, ◌*ℤ◌, nat_abs, div-le_self, arith, w32, w64, SFits}
 use Rattle.std.specs.Int.{int_div_euclid}
-use Rattle.motion.specs.Places.{floor_div, rounded_of}
+use Rattle.motion.specs.Places.{rounded_of}
 use Rattle.std.proofs.lemmas.Int.{ints, unsigned_abs-mul}
 use Rattle.std.proofs.lemmas.Nat.{mul-le}
-
-floor_is : (z : ℤ) (d : ℕ) → int_div_euclid z (pos d) ≡ floor_div z d
-floor_is (pos a) d = refl
-floor_is (negsuc a) d = refl
 
 -- the code's quotient
 pub quotient : (z : ℤ) (k j : ℕ) → int_div_euclid (z *ℤ (pos 2 *ℤ pos k) +ℤ pos j) (pos 2 *ℤ pos j) ≡ rounded_of z k j
 quotient z k j =
     let d : pos 2 *ℤ pos k ≡ pos (2 * k) = omega (arith, ints) in
     let e : pos 2 *ℤ pos j ≡ pos (2 * j) = omega (arith, ints) in
-    rw (d, e) (floor_is (z *ℤ pos (2 * k) +ℤ pos j) (2 * j))
+    rw (d, e)
 
-floor_bound : (z : ℤ) (d : ℕ) → nat_abs (floor_div z d) ≤ nat_abs z
-floor_bound (pos a) d = div-le_self a d
-floor_bound (negsuc a) d = omega (arith, ints, div-le_self a d)
+quotient_bound : (z : ℤ) (d : ℕ) → nat_abs (int_div_euclid z (pos d)) ≤ nat_abs z
+quotient_bound (pos a) d = div-le_self a d
+quotient_bound (negsuc a) d = omega (arith, ints, div-le_self a d)
 
 sum_bound : (z : ℤ) (j : ℕ) → nat_abs (z +ℤ pos j) ≤ nat_abs z + j
 sum_bound z j = omega (arith, ints)
@@ -29,7 +25,7 @@ pulses_small c k j f h i =
     omega (
       arith,
       ints,
-      floor_bound (c *ℤ pos (2 * k) +ℤ pos j) (2 * j),
+      quotient_bound (c *ℤ pos (2 * k) +ℤ pos j) (2 * j),
       sum_bound (c *ℤ pos (2 * k)) j,
       unsigned_abs-mul c (pos (2 * k)),
       mul-le (nat_abs c) (2 * k) (2 ^ 31) 20000 (omega (arith, ints)) (omega arith),

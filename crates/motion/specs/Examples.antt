@@ -1,5 +1,6 @@
 -- Worked examples, computed by the definitions that the contracts cite.
 use Rattle.std.specs.Prelude.{ℕ, ◌+◌, Bool, true, false, ◌&&◌, T, List, [], ◌∷◌, ◌++◌, ℤ, pos, negsuc, ◌+ℤ◌, ◌-ℤ◌, neg_ℤ, ◌==◌, int_le}
+use Rattle.std.specs.List.{list_all, sum_by}
 use Rattle.motion.specs.declared.raw.RawData.{RawData}
 use Rattle.units.specs.declared.Measure.TheVariants.{Millimetre}
 use Rattle.motion.specs.Ramp.{ramp_of}
@@ -25,7 +26,7 @@ same (x ∷ xs) (y ∷ ys) = (int_le x y && int_le y x) && same xs ys
 
 -- a move after a tick that is written out
 abbrev pub at : Going → Tick → Going
-at g t = record { rate = g.rate; total = g.total; left = t.left; step = t.step }
+at g t = record g { left = t.left; step = t.step }
 
 abbrev pub goes : (Going → Going) → Going → List Tick → Bool
 goes tick g [] = true
@@ -35,13 +36,8 @@ abbrev pub comes : Example → Bool
 comes (numbers got wanted) = same got wanted
 comes (ticks tick g ts) = goes tick g ts
 
-abbrev pub all : List Example → Bool
-all [] = true
-all (e ∷ es) = comes e && all es
-
 abbrev pub all_sent : List Tick → ℕ
-all_sent [] = 0
-all_sent (t ∷ ts) = t.sent + all_sent ts
+all_sent ts = sum_by (λ t. t.sent) ts
 
 abbrev pub tick : ℕ → ℕ → ℕ → Tick
 tick sent left step = record { sent = sent; left = left; step = step }
@@ -101,4 +97,4 @@ table =
     ∷ []
 
 abbrev pub Examples : Type 0
-Examples = T (all table)
+Examples = T (list_all comes table)

@@ -1,18 +1,13 @@
 -- Coordinates in units and pulses from zero: the one nearest to the other.
-use Rattle.std.specs.Prelude.{ℕ, ◌*◌, ◌/◌, ℤ, pos, negsuc, ◌+ℤ◌, ◌*ℤ◌}
-use Rattle.std.specs.Int.{int_min, int_max}
+use Rattle.std.specs.Prelude.{ℕ, ◌*◌, ◌/◌, ℤ, pos, ◌+ℤ◌, ◌*ℤ◌}
+use Rattle.std.specs.Int.{int_min, int_max, int_div_euclid}
 use Rattle.motion.specs.declared.raw.RawData.{RawData}
 use Rattle.units.specs.Measures.{units_in}
 use Rattle.units.specs.declared.Measure.{Measure}
 
--- the greatest whole number not above z ÷ d
-abbrev pub floor_div : ℤ → ℕ → ℤ
-floor_div (pos a) d = pos (a / d)
-floor_div (negsuc a) d = negsuc (a / d)
-
--- z × k ÷ j to the nearest whole number: ⌊(2zk + j) ÷ 2j⌋
+-- z × k ÷ j to the nearest whole number: ⌊(2zk + j) ÷ 2j⌋, as the quotient with no negative remainder
 abbrev pub rounded_of : ℤ → ℕ → ℕ → ℤ
-rounded_of z k j = floor_div (z *ℤ pos (2 * k) +ℤ pos j) (2 * j)
+rounded_of z k j = int_div_euclid (z *ℤ pos (2 * k) +ℤ pos j) (pos (2 * j))
 
 -- with W units and P pulses per turn: the pulses of a coordinate, and the unit nearest to n pulses
 abbrev pub pulses_of : ℕ → ℕ → ℤ → ℤ

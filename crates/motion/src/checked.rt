@@ -1,7 +1,8 @@
 ghost use Rattle.std.specs.Prelude.{◌≡◌, ◌&&◌, Decides};
+ghost use Rattle.std.specs.Result.{result_err};
 ghost use Rattle.motion.specs.Data.{Ordered, Spread, Referenced, Valid};
 ghost use Rattle.motion.specs.Questions.{ordered, placed, refusal};
-ghost use Rattle.motion.specs.Entry.{fault_in, Checked, Entered};
+ghost use Rattle.motion.specs.Entry.{Checked, Entered};
 
 use crate::fault::DataFault;
 use crate::machine::{MachineData, STEPS};
@@ -28,7 +29,7 @@ impl TryFrom<RawData> for MachineData {
     /// Machine data from what a host sends. The ranges are asked first, then whether the data agree;
     /// the last question, for at most 4,096 steps, is answered by making the ramp.
     fn try_from(raw: RawData) -> Result<MachineData, DataFault>
-        ensures value { fault_in result ≡ refusal raw }
+        ensures value { result_err result ≡ refusal raw }
         ensures says { Checked raw result }
     {
         if !raw.is_in_range() {
