@@ -74,8 +74,8 @@ module _ (fm : ℕ) (f : Ramp) (r : Rises fm f) where
       (t.0, omega (arith, t.1), t.2))
       (cases_eq (f (suc m)) fm)
 
-  pub ends_by_lem : (k : ℕ) → f (suc k) ≡ fm → (n : ℕ) × (n ≤ suc k) × EndsAt fm f n
-  ends_by_lem k e =
+  pub ends_within : (k : ℕ) → f (suc k) ≡ fm → (n : ℕ) × (n ≤ suc k) × EndsAt fm f n
+  ends_within k e =
       let t = first_of 0 (λ i h l. absurd (omega arith)) k (let s : 0 + k ≡ k = omega arith in rw s e) in
       (t.0, omega (arith, t.1), t.2)
 
@@ -85,7 +85,7 @@ module _ (fm : ℕ) (f : Ramp) (r : Rises fm f) where
 pub ramp_ends : RampEnds
 ramp_ends d h o =
     let r = ramp_rises d h o in
-    (λ s. ends_by_lem d.fm (ramp_of d) r 4095 s, λ n l e. stays_by d.fm (ramp_of d) r n 4096 e.0 l e.1)
+    (λ s. ends_within d.fm (ramp_of d) r 4095 s, λ n l e. stays_by d.fm (ramp_of d) r n 4096 e.0 l e.1)
 
 pub last_step : LastStep
 last_step fm f r v n e k h = (

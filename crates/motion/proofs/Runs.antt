@@ -1,25 +1,18 @@
 -- Runs of ticks: what they keep, what they send, and that they end.
 use Rattle.std.proofs.Common.{◌≡◌, ℕ, zero, suc, ◌+◌, ◌-◌, ◌*◌, ◌/◌, ◌<◌, ◌≤◌, min, eqb, ℤ, nat_abs, sym, refl, ap, ◌∙◌, subst, ⊎_elim, arith}
-use Rattle.std.proofs.lemmas.Bool.{cases_eq, cond-true, cond-false, cond_both, ne_eqb, le-leb, lt-leb}
+use Rattle.std.proofs.lemmas.Bool.{cases_eq, cond-true, cond-false, ne_eqb, le-leb, lt-leb}
 use Rattle.motion.specs.Ramp.{Ramp}
 use Rattle.motion.specs.Travel.{Going, gain, way, fits, chosen, left_at, ticked, braked, begun, passed_in}
-use Rattle.motion.specs.Laws.{Rises, Safe, runs, sends, StaysSafe, CompleteIn, WholeMove, NeverPast, FirstTick, Stops}
+use Rattle.motion.specs.Laws.{Rises, Safe, runs, sends, StaysSafe, Movers, CompleteIn, WholeMove, NeverPast, FirstTick, Stops}
 use Rattle.motion.proofs.Way.{way-none, way-suc, way_last}
-use Rattle.motion.proofs.Choice.{fits_parts, left_keeps}
-use Rattle.motion.specs.View.{mover_data, Movers}
+use Rattle.motion.proofs.Choice.{fits_parts, chosen_has, left_keeps}
+use Rattle.motion.specs.View.{mover_data}
 use Rattle.motion.proofs.Rising.{at_least_one, ramp_rises}
 
 module _ (f : Ramp) where
   -- what is left suffices for the chosen step
   pub chosen-way : (g : Going) → way f g.rate (chosen f g) ≤ g.left
-  chosen-way g =
-      cond_both (fits f g (g.step + 1)) (g.step + 1) _ (λ (k : ℕ). way f g.rate k ≤ g.left)
-      (λ e. (fits_parts f g (g.step + 1) e).2)
-      (λ _. cond_both (fits f g g.step) g.step _ (λ (k : ℕ). way f g.rate k ≤ g.left)
-      (λ e. (fits_parts f g g.step e).2)
-      (λ _. cond_both (fits f g (g.step - 1)) (g.step - 1) 0 (λ (k : ℕ). way f g.rate k ≤ g.left)
-      (λ e. (fits_parts f g (g.step - 1) e).2)
-      (λ _. omega (arith, way-none f g.rate))))
+  chosen-way g = chosen_has f g (λ (k : ℕ). way f g.rate k ≤ g.left) (λ k e. (fits_parts f g k e).2) (omega (arith, way-none f g.rate))
 
   pub begun-safe : (fm v : ℕ) (D : ℤ) → Safe f (begun fm v D)
   begun-safe fm v D = record { within = omega arith; brakes = omega (arith, way-none f (begun fm v D).rate) }
@@ -40,12 +33,7 @@ stays-safe f = (begun-safe f, ticked-safe f, braked-safe f)
 passed_grows : (total a b : ℕ) → b ≤ a → (total - a) / 1000000 ≤ (total - b) / 1000000
 passed_grows total a b h = omega arith
 
-module _ (f : Ramp) (tick : Going → Going) (keeps : (g : Going) → Safe f g → Safe f (tick g))
-    (falls : (g : Going) → ((tick g).total ≡ g.total) × ((tick g).left ≤ g.left)) where
-  pub runs-safe : (g : Going) → Safe f g → (n : ℕ) → Safe f (runs tick g n)
-  runs-safe g s zero = s
-  runs-safe g s (suc n) = keeps (runs tick g n) (runs-safe g s n)
-
+module _ (tick : Going → Going) (falls : (g : Going) → ((tick g).total ≡ g.total) × ((tick g).left ≤ g.left)) where
   pub runs-total : (g : Going) (n : ℕ) → (runs tick g n).total ≡ g.total
   runs-total g zero = refl
   runs-total g (suc n) = (falls (runs tick g n)).0 ∙ runs-total g n
@@ -75,11 +63,11 @@ never_past f fm v D n m =
     let g = runs (ticked f) b n in
     let h = runs (braked f) g m in
     let t : h.total ≡ 1000000 * nat_abs D =
-    runs-total f (braked f) (braked-safe f) (braked_falls f) g m ∙ runs-total f (ticked f) (ticked-safe f) (ticked_falls f) b n in
+    runs-total (braked f) (braked_falls f) g m ∙ runs-total (ticked f) (ticked_falls f) b n in
     omega (
       arith,
-      sends_is f (ticked f) (ticked-safe f) (ticked_falls f) b n,
-      sends_is f (braked f) (braked-safe f) (braked_falls f) g m,
+      sends_is (ticked f) (ticked_falls f) b n,
+      sends_is (braked f) (braked_falls f) g m,
       passed_few h.total h.left (nat_abs D) t,
     )
 
@@ -136,9 +124,9 @@ whole_move fm f r v D =
     let b = begun fm v D in
     let t = ends fm f r (suc b.left) b (omega arith) (omega arith) in
     let h = runs (ticked f) b t.0 in
-    let w : h.total ≡ 1000000 * nat_abs D = runs-total f (ticked f) (ticked-safe f) (ticked_falls f) b t.0 in
+    let w : h.total ≡ 1000000 * nat_abs D = runs-total (ticked f) (ticked_falls f) b t.0 in
     let z : h.left ≡ 0 = t.1.2 in
-    (t.0, t.1, omega (arith, sends_is f (ticked f) (ticked-safe f) (ticked_falls f) b t.0, w, z))
+    (t.0, t.1, omega (arith, sends_is (ticked f) (ticked_falls f) b t.0, w, z))
 
 module _ (f : Ramp) (g : Going) where
   brake_step : (n : ℕ) → (runs (braked f) g n).step ≡ g.step - n

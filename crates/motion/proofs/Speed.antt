@@ -5,7 +5,7 @@ use Rattle.motion.specs.Ramp.{Ramp}
 use Rattle.motion.specs.Travel.{Going, gain, way, fits, in_ramp, chosen, ticked, begun}
 use Rattle.motion.specs.Laws.{Rises, Safe, runs, SpeedHeld}
 use Rattle.motion.proofs.Way.{way-none, way-suc, gain_bound}
-use Rattle.motion.proofs.Choice.{fits_parts}
+use Rattle.motion.proofs.Choice.{fits_parts, chosen_has}
 use Rattle.motion.proofs.Rising.{rising}
 use Rattle.motion.proofs.Runs.{begun-safe, ticked-safe, tick_goes}
 
@@ -32,11 +32,7 @@ module _ (f : Ramp) (g : Going) where
 
   -- the chosen step is in the ramp
   chosen_in : in_ramp f g.rate (chosen f g) ≡ true
-  chosen_in =
-      cond_both (fits f g (g.step + 1)) (g.step + 1) _ (λ (k : ℕ). in_ramp f g.rate k ≡ true) (λ e. (fits_parts f g (g.step + 1) e).1)
-      (λ _. cond_both (fits f g g.step) g.step _ (λ (k : ℕ). in_ramp f g.rate k ≡ true) (λ e. (fits_parts f g g.step e).1)
-      (λ _. cond_both (fits f g (g.step - 1)) (g.step - 1) 0 (λ (k : ℕ). in_ramp f g.rate k ≡ true) (λ e. (fits_parts f g (g.step - 1) e).1)
-      (λ _. in_first f g.rate 0 (omega arith))))
+  chosen_in = chosen_has f g (λ (k : ℕ). in_ramp f g.rate k ≡ true) (λ k e. (fits_parts f g k e).1) (in_first f g.rate 0 (omega arith))
 
 module _ (fm : ℕ) (f : Ramp) (r : Rises fm f) where
   -- the step below one in the ramp is in it too

@@ -2,10 +2,12 @@
 use Rattle.std.specs.Prelude.{◌≡◌, ℕ, zero, suc, ◌+◌, ◌-◌, ◌*◌, ◌/◌, ◌<◌, ◌≤◌, max, true, ℤ, pos, ◌-ℤ◌, ◌*ℤ◌, ◌≤ℤ◌, ◌≢◌, unsigned_abs}
 use Rattle.std.specs.Int.{int_min, int_max}
 use Rattle.motion.specs.declared.raw.RawData.{RawData}
+use Rattle.motion.specs.declared.mover.Mover.{Mover}
 use Rattle.motion.specs.Data.{Frequencies, Ordered, Short}
 use Rattle.motion.specs.Ramp.{Ramp, ramp_of}
 use Rattle.motion.specs.Places.{pulses_of, nearest_of, held}
 use Rattle.motion.specs.Travel.{Going, gain, way, in_ramp, ticked, braked, begun, passing}
+use Rattle.motion.specs.View.{mover_data, mover_ramp, going_of}
 
 -- THE RAMP
 
@@ -82,6 +84,10 @@ pub record Safe (f : Ramp) (g : Going) : Type 0 where
 abbrev pub StaysSafe : Type 0
 StaysSafe = (f : Ramp) → ((fm v : ℕ) (D : ℤ) → Safe f (begun fm v D))
     × ((g : Going) → Safe f g → Safe f (ticked f g)) × ((g : Going) → Safe f g → Safe f (braked f g))
+
+-- every mover's ramp rises to its maximum, and its move can always be braked
+abbrev pub Movers : Type 0
+Movers = (m : Mover) → Rises (mover_data m).fm (mover_ramp m) × Safe (mover_ramp m) (going_of m)
 
 -- a move is complete in its n-th tick, and not before
 abbrev pub CompleteIn : Ramp → Going → ℕ → Type 0

@@ -3,7 +3,6 @@ use Rattle.motion.specs.declared.raw.RawData.{RawData}
 use Rattle.motion.specs.declared.mover.Mover.{Mover}
 use Rattle.motion.specs.Ramp.{Ramp, ramp_of}
 use Rattle.motion.specs.Travel.{Going}
-use Rattle.motion.specs.Laws.{Rises, Safe}
 
 abbrev pub mover_data : Mover → RawData
 mover_data m = m.machine
@@ -13,7 +12,3 @@ going_of m = record { rate = m.rate; total = m.total; left = m.left; step = m.pl
 
 abbrev pub mover_ramp : Mover → Ramp
 mover_ramp m = ramp_of (mover_data m)
-
--- every mover's ramp rises to its maximum, and its move can always be braked
-abbrev pub Movers : Type 0
-Movers = (m : Mover) → Rises (mover_data m).fm (mover_ramp m) × Safe (mover_ramp m) (going_of m)

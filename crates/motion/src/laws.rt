@@ -1,6 +1,5 @@
 // Theorems over the definitions that the contracts of this crate cite. Each function is there for its contract alone.
-ghost use Rattle.motion.specs.Laws.{RampRises, RampEnds, LastStep, Drift, Arrives, Held, StaysSafe, WholeMove, NeverPast, FirstTick, SpeedHeld, Stops};
-ghost use Rattle.motion.specs.View.{Movers};
+ghost use Rattle.motion.specs.Laws.{RampRises, RampEnds, LastStep, Drift, Arrives, Held, StaysSafe, Movers, WholeMove, NeverPast, FirstTick, SpeedHeld, Stops};
 ghost use Rattle.motion.specs.Examples.{Examples};
 
 /// The ramp rises by at least 1 a step until its maximum, and ends there.
