@@ -2,7 +2,7 @@
 use Rattle.std.proofs.Common.{◌≡◌, ◌-◌, ◌≤◌, Option, Some, None, unwrap_or, sym, subst, arith}
 use Rattle.motion.specs.Ramp.{Ramp}
 use Rattle.motion.specs.Travel.{Going, way}
-use Rattle.motion.specs.Place.{Summed, PlaceRuns, left_after}
+use Rattle.motion.specs.RampPlace.{Summed, PlaceRuns, left_after}
 use Rattle.motion.specs.declared.mover.Place.{Place}
 use Rattle.motion.proofs.Way.{way-none, way_last}
 

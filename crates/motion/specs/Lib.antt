@@ -5,7 +5,7 @@ pub mod Faults
 pub mod Questions
 pub mod Entry
 pub mod Travel
-pub mod Place
+pub mod RampPlace
 pub mod View
 pub mod Laws
 pub mod Examples

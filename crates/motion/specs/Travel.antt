@@ -37,11 +37,11 @@ left_at f g k = cond (k == 0) 0 (g.left - gain f g.rate k)
 
 -- a move after a tick
 abbrev pub ticked : Ramp → Going → Going
-ticked f g = record { rate = g.rate; total = g.total; left = left_at f g (chosen f g); step = chosen f g }
+ticked f g = record g { left = left_at f g (chosen f g); step = chosen f g }
 
 -- a move after a braking tick: one step lower, at step 0 it stands and runs no more
 abbrev pub braked : Ramp → Going → Going
-braked f g = record { rate = g.rate; total = g.total; left = g.left - gain f g.rate (g.step - 1); step = g.step - 1 }
+braked f g = record g { left = g.left - gain f g.rate (g.step - 1); step = g.step - 1 }
 
 -- a new move by D pulses, its rate held to 1 to fm
 abbrev pub begun : ℕ → ℕ → ℤ → Going

@@ -1,7 +1,7 @@
 ghost use Rattle.std.specs.Prelude.{◌≡◌, ◌+◌, ◌-◌, ◌%◌, ◌&&◌, nat_le};
 ghost use Rattle.motion.specs.Ramp.{ramp_of};
 ghost use Rattle.motion.specs.Travel.{gain, in_ramp, ticked, braked, begun, idle, passed_in, passing};
-ghost use Rattle.motion.specs.Place.{Summed, PlaceRuns, left_after, run_at};
+ghost use Rattle.motion.specs.RampPlace.{Summed, PlaceRuns, left_after, run_at};
 ghost use Rattle.motion.specs.View.{mover_data, mover_ramp, going_of};
 
 use crate::machine::MachineData;

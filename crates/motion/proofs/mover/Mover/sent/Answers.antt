@@ -1,5 +1,5 @@
 use Rattle.std.proofs.Common.{arith}
-use Rattle.motion.specs.Place.{Runs}
+use Rattle.motion.specs.RampPlace.{Runs}
 use Rattle.motion.specs.View.{mover_ramp, going_of}
 use Rattle.motion.proofs.Way.{way_last}
 use Rattle.motion.proofs.mover.Mover.sent.Goals as goal

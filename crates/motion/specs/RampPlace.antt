@@ -29,4 +29,4 @@ left_after f g (Some p) = g.left - gain f g.rate p.step
 
 -- a move after a tick at a place
 abbrev pub run_at : Ramp → Going → Option Place → Going
-run_at f g p = record { rate = g.rate; total = g.total; left = left_after f g p; step = step_of p }
+run_at f g p = record g { left = left_after f g p; step = step_of p }
