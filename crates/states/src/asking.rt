@@ -42,22 +42,6 @@ pub struct AxisView<'a> {
     pub reading: Reading,
 }
 
-impl Working {
-    /// The limits of the machine data; without a reference those of a jog.
-    pub fn limits(&self, machine: &MachineData) -> Span
-        ensures { result ≡ record { low = lowest_of machine.now self.now.referenced; high = highest_of machine.now self.now.referenced } }
-    {
-        if !self.referenced {
-            return Span::REACH;
-        }
-        let values = machine.values();
-        Span {
-            low: values.low,
-            high: values.high,
-        }
-    }
-}
-
 impl Record {
     /// The axis with what its drive reads; none without machine data.
     pub fn view(&self, reading: Reading) -> Option<AxisView<'_>>
@@ -106,11 +90,18 @@ impl AxisView<'_> {
         (1..=u64::from(self.machine.values().fm)).contains(&wish.rate)
     }
 
-    /// The limits of its targets.
+    /// The limits of its targets: those of the machine data; without a reference those of a jog.
     pub fn limits(&self) -> Span
         ensures { result ≡ record { low = lowest_of self.now.machine.now self.now.work.now.referenced; high = highest_of self.now.machine.now self.now.work.now.referenced } }
     {
-        self.work.limits(self.machine)
+        if !self.work.referenced {
+            return Span::REACH;
+        }
+        let values = self.machine.values();
+        Span {
+            low: values.low,
+            high: values.high,
+        }
     }
 
     /// A move to a target, with its distance from where the drive is.
