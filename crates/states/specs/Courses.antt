@@ -1,4 +1,4 @@
--- A program under way: how it opens, its rate and its targets.
+-- A program under way: how it opens, and the rate of its block.
 use Rattle.std.specs.Prelude.{ℕ, None}
 use Rattle.std.specs.Option.{unwrap_or}
 use Rattle.reader.specs.declared.block.Motion.{Motion}

@@ -1,4 +1,4 @@
--- What orders and ticks make of the working values.
+-- What orders and ticks share: how a move begins, and a fault with its program and block.
 use Rattle.std.specs.Prelude.{ℕ, false, Some, None, Option}
 use Rattle.motion.specs.declared.raw.RawData.{RawData}
 use Rattle.states.specs.declared.aim.Aim.{Aim}
@@ -13,7 +13,7 @@ travel_to machine a c w = record { start = w.coordinate; target = a.target; dist
 
 -- a new move clears in position
 abbrev pub set_off : Option RawData → Aim → Option Course → Work → Work
-set_off machine a c w = record { mode = w.mode; auxiliary = w.auxiliary; fault = w.fault; offset = w.offset; tool = w.tool; coordinate = w.coordinate; zero = w.zero; referenced = w.referenced; in_position = false; phase = moving (travel_to machine a c w) }
+set_off machine a c w = record w { in_position = false; phase = moving (travel_to machine a c w) }
 
 -- a fault at a place: program and block
 abbrev pub fault_at : ℕ → ℕ → Cause → AxisFault

@@ -11,19 +11,19 @@ use Rattle.states.specs.declared.fault.AxisFault.{AxisFault}
 use Rattle.states.specs.State.{standing, Work, Status, stands}
 use Rattle.states.specs.Effects.{fault_at}
 
--- Z, T and coordinate 0, mode 4, no program, no reference, not in position; the fault stays
-abbrev pub cleared : ℤ → Work → Work
-cleared zero w = record { mode = 4; auxiliary = 2; fault = w.fault; offset = pos 0; tool = pos 0; coordinate = pos 0; zero = zero; referenced = false; in_position = false; phase = standing }
-
--- a new axis: all as after a deletion, no fault and the count at zero 0
+-- a new axis: Z, T, coordinate and the count at zero 0, mode 4, no program, no fault, no reference, not in position
 abbrev pub new_work : Work
 new_work = record { mode = 4; auxiliary = 2; fault = None; offset = pos 0; tool = pos 0; coordinate = pos 0; zero = pos 0; referenced = false; in_position = false; phase = standing }
+
+-- as a new axis, but for the count at zero, which is given, and the fault, which stays
+abbrev pub cleared : ℤ → Work → Work
+cleared zero w = record new_work { fault = w.fault; zero = zero }
 
 abbrev pub new_status : Status
 new_status = record { begin = false; end = false; machine = None; work = new_work }
 
 abbrev pub with_data : Option RawData → Work → Status → Status
-with_data machine w s = record { begin = s.begin; end = s.end; machine = machine; work = w }
+with_data machine w s = record s { machine = machine; work = w }
 
 abbrev pub data_cause : Option DataFault → Option Cause
 data_cause None = None

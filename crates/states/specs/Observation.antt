@@ -11,11 +11,11 @@ use Rattle.states.specs.Shift.{shift_of}
 
 -- with a move: target less coordinate; else 0
 abbrev pub rest_in : Phase → ℤ → ℤ
-rest_in standing c = pos 0
-rest_in (moving t) c = t.target -ℤ c
-rest_in (braking t) c = t.target -ℤ c
-rest_in (held c u) at = pos 0
-rest_in (between c) at = pos 0
+rest_in standing coordinate = pos 0
+rest_in (moving t) coordinate = t.target -ℤ coordinate
+rest_in (braking t) coordinate = t.target -ℤ coordinate
+rest_in (held c u) coordinate = pos 0
+rest_in (between c) coordinate = pos 0
 
 abbrev pub in_degrees : Measure → Bool
 in_degrees Millimetre = false

@@ -5,6 +5,7 @@ use Rattle.reader.specs.declared.block.OffsetChoice.TheVariants.{Without, First,
 use Rattle.motion.specs.declared.raw.RawData.{RawData}
 use Rattle.states.specs.State.{Course, Work, course_of}
 
+-- the offset that is chosen, by the machine data
 abbrev pub offset_by : RawData → OffsetChoice → ℤ
 offset_by d Without = pos 0
 offset_by d First = slice_index_or d.offsets 0 (pos 0)

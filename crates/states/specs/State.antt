@@ -59,13 +59,13 @@ pub record AxisState : Type 0 where
   pub status : Status
 
 abbrev pub with_work : Work → Status → Status
-with_work w s = record { begin = s.begin; end = s.end; machine = s.machine; work = w }
+with_work w s = record s { work = w }
 
 abbrev pub with_fault : Option AxisFault → Work → Work
-with_fault f w = record { mode = w.mode; auxiliary = w.auxiliary; fault = f; offset = w.offset; tool = w.tool; coordinate = w.coordinate; zero = w.zero; referenced = w.referenced; in_position = w.in_position; phase = w.phase }
+with_fault f w = record w { fault = f }
 
 abbrev pub with_phase : Phase → Work → Work
-with_phase p w = record { mode = w.mode; auxiliary = w.auxiliary; fault = w.fault; offset = w.offset; tool = w.tool; coordinate = w.coordinate; zero = w.zero; referenced = w.referenced; in_position = w.in_position; phase = p }
+with_phase p w = record w { phase = p }
 
 -- an axis stands when it has neither a move nor a running program that is not held
 abbrev pub stands : Phase → Bool
