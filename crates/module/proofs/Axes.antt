@@ -10,8 +10,8 @@ use Rattle.module.specs.declared.call.Act.TheVariants.{Enter, Delete, Order, Lev
 use Rattle.module.specs.declared.call.Call.{Call}
 use Rattle.module.specs.declared.call.Call.TheVariants.{OnAxis, Open, Add, Close, Abandon, DeleteProgram}
 use Rattle.module.specs.State.{Machine}
-use Rattle.module.specs.Machine.{Told, answered, done_or, at_axis, reply, if_named, with_programs, in_use, step, after}
-use Rattle.module.specs.Heard.{Which, first, second, third, number, axis_at, act_of, act_on}
+use Rattle.module.specs.Machine.{Reply, answered, done_or, at_axis, reply, if_named, with_programs, in_use, step, after}
+use Rattle.module.specs.History.{Which, first, second, third, number, axis_at, act_of, act_on}
 
 -- THE STEP
 
@@ -58,23 +58,23 @@ step_at w (DeleteProgram n) s =
 
 -- THE REPLY
 
--- an act is told what the axis answers
-abbrev pub said : ℕ → one.Act → Programs → AxisState → Told
-said n act p a = at_axis n (done_or (one.act_reply act p a))
+-- an act is answered what the axis answers
+abbrev pub reply_to : ℕ → one.Act → Programs → AxisState → Reply
+reply_to n act p a = at_axis n (done_or (one.act_reply act p a))
 
--- t is what that act is told, if there is one
-abbrev pub IsTold : ℕ → Option one.Act → Told → Programs → AxisState → Type 0
-IsTold n None t p a = Unit {0}
-IsTold n (Some act) t p a = t ≡ said n act p a
+-- t is what that act is answered, if there is one
+abbrev pub IsReply : ℕ → Option one.Act → Reply → Programs → AxisState → Type 0
+IsReply n None t p a = Unit {0}
+IsReply n (Some act) t p a = t ≡ reply_to n act p a
 
 -- the act that is asked
-asked_told : (act : Act) (n : ℕ) (p : Programs) (a : AxisState) → IsTold n (act_of act) (at_axis n (answered act p a)) p a
-asked_told (Enter d) n p a = refl
-asked_told Delete n p a = refl
-asked_told (Order o) n p a = refl
-asked_told (Level l) n p a = refl
-asked_told Tick n p a = refl
-asked_told Observe n p a = tt
+asked_reply : (act : Act) (n : ℕ) (p : Programs) (a : AxisState) → IsReply n (act_of act) (at_axis n (answered act p a)) p a
+asked_reply (Enter d) n p a = refl
+asked_reply Delete n p a = refl
+asked_reply (Order o) n p a = refl
+asked_reply (Level l) n p a = refl
+asked_reply Tick n p a = refl
+asked_reply Observe n p a = tt
 
 -- the axis that is named replies
 reply_of : (w : Which) (axis : ℕ) (act : Act) (s : Machine) → axis ≡ number w
@@ -84,16 +84,16 @@ reply_of second axis act s e = ap (λ (n : ℕ). reply (OnAxis n act) s) e
 reply_of third axis act s e = ap (λ (n : ℕ). reply (OnAxis n act) s) e
 
 -- whether it is named or not
-named_told : (b : Bool) (w : Which) (axis : ℕ) (act : Act) (s : Machine) → eqb axis (number w) ≡ b
-    → IsTold (number w) (cond b (act_of act) None) (reply (OnAxis axis act) s) s.programs (axis_at w s)
-named_told true w axis act s e =
-    subst (λ (t : Told). IsTold (number w) (act_of act) t s.programs (axis_at w s))
-    (sym (reply_of w axis act s (eqb-true axis (number w) e))) (asked_told act (number w) s.programs (axis_at w s))
-named_told false w axis act s e = tt
+named_reply : (b : Bool) (w : Which) (axis : ℕ) (act : Act) (s : Machine) → eqb axis (number w) ≡ b
+    → IsReply (number w) (cond b (act_of act) None) (reply (OnAxis axis act) s) s.programs (axis_at w s)
+named_reply true w axis act s e =
+    subst (λ (t : Reply). IsReply (number w) (act_of act) t s.programs (axis_at w s))
+    (sym (reply_of w axis act s (eqb-true axis (number w) e))) (asked_reply act (number w) s.programs (axis_at w s))
+named_reply false w axis act s e = tt
 
--- a call is told what its act on the axis answers
-pub reply_at : (w : Which) (c : Call) (s : Machine) → IsTold (number w) (act_on w c) (reply c s) s.programs (axis_at w s)
-reply_at w (OnAxis axis act) s = named_told (eqb axis (number w)) w axis act s refl
+-- a call is answered what its act on the axis answers
+pub reply_at : (w : Which) (c : Call) (s : Machine) → IsReply (number w) (act_on w c) (reply c s) s.programs (axis_at w s)
+reply_at w (OnAxis axis act) s = named_reply (eqb axis (number w)) w axis act s refl
 reply_at w (Open n m) s = tt
 reply_at w (Add n line) s = tt
 reply_at w (Close n) s = tt

@@ -3,7 +3,7 @@ use Rattle.std.proofs.Common.{◌≡◌, cond, List, [], ◌∷◌, ◌++◌, �
 use Rattle.std.proofs.lemmas.Int.{ints}
 use Rattle.laws.specs.Acts.{Act, entering, deleting, ordering, levelling, ticking}
 use Rattle.laws.specs.Laws.{offset_after, tool_after}
-use Rattle.module.specs.Heard.{Heard, is_done, offset_said, tool_said}
+use Rattle.module.specs.History.{PastAct, is_done, offset_in, tool_in}
 use Rattle.module.specs.Given.{accepted, sets_offset, adds_offset, sets_tool, adds_tool, NoneSets, sum, LastAndAfter}
 
 -- acts one after another
@@ -61,16 +61,16 @@ tool_add (ordering o) z e = grind (arith, ints)
 tool_add (levelling begin end ready) z e = omega (arith, ints)
 tool_add ticking z e = omega (arith, ints)
 
-offset_folds : (hs : List Heard) (z : ℤ) → offset_said hs z ≡ fold offset_after (accepted hs) z
+offset_folds : (hs : List PastAct) (z : ℤ) → offset_in hs z ≡ fold offset_after (accepted hs) z
 offset_folds [] z = refl
 offset_folds (h ∷ hs) z = let more = λ (x : ℤ). offset_folds hs x in grind (arith, more)
 
-tool_folds : (hs : List Heard) (z : ℤ) → tool_said hs z ≡ fold tool_after (accepted hs) z
+tool_folds : (hs : List PastAct) (z : ℤ) → tool_in hs z ≡ fold tool_after (accepted hs) z
 tool_folds [] z = refl
 tool_folds (h ∷ hs) z = let more = λ (x : ℤ). tool_folds hs x in grind (arith, more)
 
-pub offset_given : (hs : List Heard) → LastAndAfter sets_offset adds_offset (accepted hs) (offset_said hs (pos 0))
-offset_given hs = last_and_after offset_after sets_offset adds_offset offset_set offset_add (accepted hs) (offset_said hs (pos 0)) (offset_folds hs (pos 0))
+pub offset_given : (hs : List PastAct) → LastAndAfter sets_offset adds_offset (accepted hs) (offset_in hs (pos 0))
+offset_given hs = last_and_after offset_after sets_offset adds_offset offset_set offset_add (accepted hs) (offset_in hs (pos 0)) (offset_folds hs (pos 0))
 
-pub tool_given : (hs : List Heard) → LastAndAfter sets_tool adds_tool (accepted hs) (tool_said hs (pos 0))
-tool_given hs = last_and_after tool_after sets_tool adds_tool tool_set tool_add (accepted hs) (tool_said hs (pos 0)) (tool_folds hs (pos 0))
+pub tool_given : (hs : List PastAct) → LastAndAfter sets_tool adds_tool (accepted hs) (tool_in hs (pos 0))
+tool_given hs = last_and_after tool_after sets_tool adds_tool tool_set tool_add (accepted hs) (tool_in hs (pos 0)) (tool_folds hs (pos 0))

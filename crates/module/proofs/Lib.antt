@@ -1,6 +1,6 @@
 pub mod Longer
 pub mod Axes
-pub mod Heards
+pub mod Histories
 pub mod Standing
 pub mod Promised
 pub mod Used

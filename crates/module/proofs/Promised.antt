@@ -11,45 +11,45 @@ use Rattle.laws.proofs.Reckoning.{drift_bound, limits}
 use Rattle.laws.proofs.Shifts.{shift}
 use Rattle.module.specs.declared.call.Call.{Call}
 use Rattle.module.specs.State.{Machine}
-use Rattle.module.specs.Machine.{Told, new_machine, after, replies}
-use Rattle.module.specs.Heard.{Which, first, second, third, number, axis_at, Heard, heard, data_said, zero_said, offset_said, tool_said, reference_said}
+use Rattle.module.specs.Machine.{Reply, new_machine, after, replies}
+use Rattle.module.specs.History.{Which, first, second, third, number, axis_at, PastAct, history, data_in, zero_in, offset_in, tool_in, reference_in}
 use Rattle.module.specs.Promise.{DriftBound, ShiftLaw, LimitsLaw, PulsesTaken, NoDrift, Exact, Promise}
 use Rattle.module.proofs.Giving.{offset_given, tool_given}
 use Rattle.module.proofs.Axes.{events, after_at}
-use Rattle.module.proofs.Heards.{heard_of, heard_same, data_same, zero_same, offset_same, tool_same, reference_same}
+use Rattle.module.proofs.Histories.{history_of, history_same, data_same, zero_same, offset_same, tool_same, reference_same}
 use Rattle.module.proofs.Standing.{stop_law}
 
--- an axis that is new in s, and what it was asked and told in the calls
+-- an axis that is new in s, and what it was asked and answered in the calls
 module _ (w : Which) (m : Meaning) (sound : Sound m) (s : Machine) (q : axis_at w s ≡ one.new_axis m) (calls : List Call)
-    (hs : List Heard) (k : hs ≡ heard_of (number w) (one.new_axis m) (events w s calls)) where
+    (hs : List PastAct) (k : hs ≡ history_of (number w) (one.new_axis m) (events w s calls)) where
   -- the axis is one after its events
   end : axis_at w (after s calls) ≡ one.after (one.new_axis m) (events w s calls)
   end = after_at w calls s ∙ ap (λ (a : AxisState). one.after a (events w s calls)) q
 
   -- the machine data, as the events give them
-  data_is : data_said hs None ≡ reckoned.data_given (one.new_axis m) (events w s calls) None
+  data_is : data_in hs None ≡ reckoned.data_given (one.new_axis m) (events w s calls) None
   data_is = rw k (data_same (number w) (events w s calls) (one.new_axis m) None)
 
   -- the count at zero
-  zero_is : zero_said hs None (pos 0) ≡ reckoned.zero_given (one.new_axis m) (events w s calls) None (pos 0)
+  zero_is : zero_in hs None (pos 0) ≡ reckoned.zero_given (one.new_axis m) (events w s calls) None (pos 0)
   zero_is = rw k (zero_same (number w) (events w s calls) (one.new_axis m) None (pos 0))
 
   -- Z
-  offset_is : offset_said hs (pos 0) ≡ laws.offset_given (one.new_axis m) (events w s calls) (pos 0)
+  offset_is : offset_in hs (pos 0) ≡ laws.offset_given (one.new_axis m) (events w s calls) (pos 0)
   offset_is = rw k (offset_same (number w) (events w s calls) (one.new_axis m) (pos 0))
 
   -- T
-  tool_is : tool_said hs (pos 0) ≡ laws.tool_given (one.new_axis m) (events w s calls) (pos 0)
+  tool_is : tool_in hs (pos 0) ≡ laws.tool_given (one.new_axis m) (events w s calls) (pos 0)
   tool_is = rw k (tool_same (number w) (events w s calls) (one.new_axis m) (pos 0))
 
   -- the reference
-  reference_is : reference_said hs false ≡ reckoned.reference_given (one.new_axis m) (events w s calls) false
+  reference_is : reference_in hs false ≡ reckoned.reference_given (one.new_axis m) (events w s calls) false
   reference_is = rw k (reference_same (number w) (events w s calls) (one.new_axis m) false)
 
   -- the coordinate is near the pulses from that zero
   drift_holds : DriftBound w s calls hs
   drift_holds d e =
-      let n = zero_said hs None (pos 0) in
+      let n = zero_in hs None (pos 0) in
       subst (λ (a : AxisState). Near d.units d.pulses (a.drive.count -ℤ n) a.status.work.coordinate) (sym end)
       (rw zero_is (drift_bound m sound (events w s calls) d (sym data_is ∙ e)))
 
@@ -79,21 +79,21 @@ module _ (w : Which) (m : Meaning) (sound : Sound m) (s : Machine) (q : axis_at 
 
 -- the same by the replies that the calls were given
 no_drift_by : (w : Which) (m : Meaning) → Sound m → (s : Machine) → axis_at w s ≡ one.new_axis m → (calls : List Call)
-    (told : List Told) → told ≡ replies s calls → NoDrift w s calls (heard w s calls told)
-no_drift_by w m sound s q calls told e =
+    (answers : List Reply) → answers ≡ replies s calls → NoDrift w s calls (history w s calls answers)
+no_drift_by w m sound s q calls answers e =
     let es = events w s calls in
-    let h = heard_same w calls s ∙ ap (λ (a : AxisState). heard_of (number w) a es) q in
-    new_no_drift w m sound s q calls (heard w s calls told) (ap (λ (ts : List Told). heard w s calls ts) e ∙ h)
+    let h = history_same w calls s ∙ ap (λ (a : AxisState). history_of (number w) a es) q in
+    new_no_drift w m sound s q calls (history w s calls answers) (ap (λ (ts : List Reply). history w s calls ts) e ∙ h)
 
 -- a new module on drives that are sound
-module _ (x y z : Meaning) (sx : Sound x) (sy : Sound y) (sz : Sound z) (calls : List Call) (told : List Told) where
+module _ (x y z : Meaning) (sx : Sound x) (sy : Sound y) (sz : Sound z) (calls : List Call) (answers : List Reply) where
   -- no axis of it drifts
-  pub no_drift : told ≡ replies (new_machine x y z) calls → (w : Which)
-      → NoDrift w (new_machine x y z) calls (heard w (new_machine x y z) calls told)
-  no_drift e first = no_drift_by first x sx (new_machine x y z) refl calls told e
-  no_drift e second = no_drift_by second y sy (new_machine x y z) refl calls told e
-  no_drift e third = no_drift_by third z sz (new_machine x y z) refl calls told e
+  pub no_drift : answers ≡ replies (new_machine x y z) calls → (w : Which)
+      → NoDrift w (new_machine x y z) calls (history w (new_machine x y z) calls answers)
+  no_drift e first = no_drift_by first x sx (new_machine x y z) refl calls answers e
+  no_drift e second = no_drift_by second y sy (new_machine x y z) refl calls answers e
+  no_drift e third = no_drift_by third z sz (new_machine x y z) refl calls answers e
 
   -- a run that is exact keeps the promise
-  pub promised : (x′ y′ z′ : Meaning) → Exact x y z calls told x′ y′ z′ → Promise x y z calls told x′ y′ z′
+  pub promised : (x′ y′ z′ : Meaning) → Exact x y z calls answers x′ y′ z′ → Promise x y z calls answers x′ y′ z′
   promised x′ y′ z′ e = record { exact = e; no_drift = no_drift e.replies }

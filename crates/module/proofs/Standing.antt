@@ -13,9 +13,9 @@ use Rattle.module.specs.declared.call.Call.{Call}
 use Rattle.module.specs.declared.call.Call.TheVariants.{OnAxis}
 use Rattle.module.specs.State.{Machine}
 use Rattle.module.specs.Machine.{done, done_or, at_axis, step, reply, after}
-use Rattle.module.specs.Heard.{Which, first, second, third, number, axis_at, act_on, is_tick, ticks_of}
+use Rattle.module.specs.History.{Which, first, second, third, number, axis_at, act_on, is_tick, ticks_of}
 use Rattle.module.specs.Promise.{StandsWithin, StopLaw}
-use Rattle.module.proofs.Axes.{left_by, step_at, IsTold, reply_at, one_more, events, after_at}
+use Rattle.module.proofs.Axes.{left_by, step_at, IsReply, reply_at, one_more, events, after_at}
 
 -- a call is a tick of the axis if its event is one
 ticks_one : (o : Option one.Act) (p : Programs) (es : List one.Event) → is_tick o + one.ticks es ≡ one.ticks (one_more o p es)
@@ -78,10 +78,10 @@ order_on first o = refl
 order_on second o = refl
 order_on third o = refl
 
--- an act that is told done is accepted
-accepted : (n : ℕ) (r : Result (Unit {0}) AxisFault) → at_axis n (done_or r) ≡ done → r ≡ Ok tt
-accepted n (Ok u) e = refl
-accepted n (Err f) e = cc
+-- an act that is answered done is accepted
+done_accepted : (n : ℕ) (r : Result (Unit {0}) AxisFault) → at_axis n (done_or r) ≡ done → r ≡ Ok tt
+done_accepted n (Ok u) e = refl
+done_accepted n (Err f) e = cc
 
 -- the law of a stop, from a machine in which the axis is new
 pub stop_law : (w : Which) (m : Meaning) → Sound m → (s : Machine) → axis_at w s ≡ one.new_axis m → (calls : List Call)
@@ -93,8 +93,8 @@ stop_law w m sound s q calls before later o split c e h =
     let p = t.programs in
     let n = max (step_of a) 1 in
     let is = order_on w o in
-    let told = subst (λ (x : Option one.Act). IsTold (number w) x (reply call t) p a) is (reply_at w call t) in
-    let yes = accepted (number w) (one.act_reply (one.ordering o) p a) (sym told ∙ e) in
+    let replied = subst (λ (x : Option one.Act). IsReply (number w) x (reply call t) p a) is (reply_at w call t) in
+    let yes = done_accepted (number w) (one.act_reply (one.ordering o) p a) (sym replied ∙ e) in
     let stopped = step_at w call t ∙ ap (λ (x : Option one.Act). left_by x p a) is in
     let from = after_at w before s ∙ ap (λ (x : AxisState). one.after x (events w s before)) q in
     let enough = subst (λ (k : ℕ). n ≤ k) (ticks_same w later (step call t)) h in

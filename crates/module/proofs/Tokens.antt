@@ -1,13 +1,13 @@
--- A closing by token is told what a closing by number is told.
+-- A closing by token is answered what a closing by number is answered.
 use Rattle.std.proofs.Common.{◌≡◌, None, Some, Option, refl, arith}
 use Rattle.store.specs.declared.entry.Entry.{Entry}
 use Rattle.store.specs.Programs.{Program, Programs}
 use Rattle.store.specs.Entry.{close_answer, close_reply}
-use Rattle.module.specs.Machine.{at_store, closing_told}
+use Rattle.module.specs.Machine.{at_store, reply_of_close}
 
-closing_by : (e : Entry) (s : Programs) (o : Option Program) → s.entry ≡ o → closing_told (close_answer e s) ≡ at_store (close_reply e.number s)
+closing_by : (e : Entry) (s : Programs) (o : Option Program) → s.entry ≡ o → reply_of_close (close_answer e s) ≡ at_store (close_reply e.number s)
 closing_by e s None q = grind (arith, q)
 closing_by e s (Some p) q = grind (arith, q)
 
-pub closing_same : (e : Entry) (s : Programs) → closing_told (close_answer e s) ≡ at_store (close_reply e.number s)
+pub closing_same : (e : Entry) (s : Programs) → reply_of_close (close_answer e s) ≡ at_store (close_reply e.number s)
 closing_same e s = closing_by e s s.entry refl

@@ -14,7 +14,7 @@ use Rattle.module.specs.declared.call.Act.TheVariants.{Enter, Order as Ordering,
 use Rattle.module.specs.declared.call.Call.{Call}
 use Rattle.module.specs.declared.call.Call.TheVariants.{OnAxis}
 use Rattle.module.specs.State.{Machine}
-use Rattle.module.specs.Machine.{Told, done, new_machine, step, after, replies}
+use Rattle.module.specs.Machine.{Reply, done, new_machine, step, after, replies}
 
 -- MOVES ONE AFTER ANOTHER: the pulses D of each, with the count carried on
 

@@ -1,12 +1,12 @@
 -- The shift as the accepted acts of an axis give it: by the last that sets a value, and those that add to it after that.
 use Rattle.std.specs.Prelude.{◌≡◌, cond, List, [], ◌∷◌, ◌++◌, ℤ, pos, ◌+ℤ◌, Some, None, Option, ◌==◌}
 use Rattle.laws.specs.Acts.{Act, entering, deleting, ordering, levelling, ticking}
-use Rattle.module.specs.Heard.{Heard, is_done}
+use Rattle.module.specs.History.{PastAct, is_done}
 
 -- the acts that were accepted
-abbrev pub accepted : List Heard → List Act
+abbrev pub accepted : List PastAct → List Act
 accepted [] = []
-accepted (h ∷ hs) = cond (is_done h.told) (h.act ∷ accepted hs) (accepted hs)
+accepted (h ∷ hs) = cond (is_done h.reply) (h.act ∷ accepted hs) (accepted hs)
 
 -- the value that an act sets Z to: mode 12 its double word; mode 14, and machine data entered or deleted, zero
 abbrev pub sets_offset : Act → Option ℤ

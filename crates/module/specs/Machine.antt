@@ -27,11 +27,11 @@ use Rattle.module.specs.declared.fault.Fault.{Fault}
 use Rattle.module.specs.declared.fault.Fault.TheVariants.{NoSuchAxis, OfAxis, OfStore, InUse}
 use Rattle.module.specs.State.{Machine}
 
--- what a call is told: that it is done, what an axis shows, or why it is refused
-pub data Told : Type 0 where
-  done : Told
-  shown : Shown → Told
-  refused : Fault → Told
+-- what a call is answered: that it is done, what an axis shows, or why it is refused
+pub data Reply : Type 0 where
+  done : Reply
+  shown : Shown → Reply
+  refused : Fault → Reply
 
 -- ONE AXIS
 
@@ -68,12 +68,12 @@ named Observe = 0
 
 -- THREE AXES AND THE STORE
 
-abbrev pub at_axis : ℕ → Result (Option Shown) AxisFault → Told
+abbrev pub at_axis : ℕ → Result (Option Shown) AxisFault → Reply
 at_axis axis (Ok None) = done
 at_axis axis (Ok (Some o)) = shown o
 at_axis axis (Err f) = refused (OfAxis axis f)
 
-abbrev pub at_store : Result (Unit {0}) StoreFault → Told
+abbrev pub at_store : Result (Unit {0}) StoreFault → Reply
 at_store (Ok u) = done
 at_store (Err e) = refused (OfStore e)
 
@@ -85,13 +85,13 @@ abbrev pub in_use : ℕ → Machine → Bool
 in_use n s = uses_in n s.first || (uses_in n s.second || uses_in n s.third)
 
 -- 14, then 36
-abbrev pub deletion_reply : ℕ → Machine → Told
+abbrev pub deletion_reply : ℕ → Machine → Reply
 deletion_reply n s = cond (is_some (found n s.programs.stored)) (cond (in_use n s) (refused (InUse n)) done) (refused (OfStore (NotStored n)))
 
-abbrev pub adding_reply : ℕ → List ℕ → Machine → Told
+abbrev pub adding_reply : ℕ → List ℕ → Machine → Reply
 adding_reply n line s = at_store (add_reply n line s.programs)
 
-abbrev pub reply : Call → Machine → Told
+abbrev pub reply : Call → Machine → Reply
 reply (OnAxis axis act) s =
     cond (axis == 1) (at_axis 1 (answered act s.programs s.first))
     (cond (axis == 2) (at_axis 2 (answered act s.programs s.second))
@@ -139,7 +139,7 @@ abbrev pub after : Machine → List Call → Machine
 after s [] = s
 after s (c ∷ cs) = after (step c s) cs
 
-abbrev pub replies : Machine → List Call → List Told
+abbrev pub replies : Machine → List Call → List Reply
 replies s [] = []
 replies s (c ∷ cs) = reply c s ∷ replies (step c s) cs
 
@@ -150,16 +150,16 @@ answer_by (Ok answer.Done) = Ok None
 answer_by (Ok (answer.Shown o)) = Ok (Some (shown_by o))
 answer_by (Err f) = Err f
 
-abbrev pub said_by : Result Answer Fault → Told
-said_by (Ok answer.Done) = done
-said_by (Ok (answer.Shown o)) = shown (shown_by o)
-said_by (Err f) = refused f
+abbrev pub reply_by : Result Answer Fault → Reply
+reply_by (Ok answer.Done) = done
+reply_by (Ok (answer.Shown o)) = shown (shown_by o)
+reply_by (Err f) = refused f
 
-abbrev pub shown_in : Result Observation Fault → Told
+abbrev pub shown_in : Result Observation Fault → Reply
 shown_in (Ok o) = shown (shown_by o)
 shown_in (Err f) = refused f
 
-abbrev pub refusal_in : Told → Result (Unit {0}) Fault
+abbrev pub refusal_in : Reply → Result (Unit {0}) Fault
 refusal_in done = Ok tt
 refusal_in (shown o) = Ok tt
 refusal_in (refused f) = Err f
@@ -172,16 +172,16 @@ token_or (Err f) = Err (OfStore f)
 abbrev pub opened_reply : ℕ → Machine → Result Entry Fault
 opened_reply n s = token_or (open_reply n s.programs)
 
--- what the calls by token are told, apart from the token that is given or handed back
-abbrev pub opening_told : Result Entry Fault → Told
-opening_told (Ok e) = done
-opening_told (Err f) = refused f
+-- what the calls by token are answered, apart from the token that is given or handed back
+abbrev pub reply_of_open : Result Entry Fault → Reply
+reply_of_open (Ok e) = done
+reply_of_open (Err f) = refused f
 
-abbrev pub closing_told : Result (Unit {0}) CloseRefusal → Told
-closing_told (Ok u) = done
-closing_told (Err (NotThisOne back)) = refused (OfStore back.fault)
-closing_told (Err (Ended f)) = refused (OfStore f)
+abbrev pub reply_of_close : Result (Unit {0}) CloseRefusal → Reply
+reply_of_close (Ok u) = done
+reply_of_close (Err (NotThisOne back)) = refused (OfStore back.fault)
+reply_of_close (Err (Ended f)) = refused (OfStore f)
 
-abbrev pub abandoning_told : Result (Unit {0}) HandedBack → Told
-abandoning_told (Ok u) = done
-abandoning_told (Err back) = refused (OfStore back.fault)
+abbrev pub reply_of_abandon : Result (Unit {0}) HandedBack → Reply
+reply_of_abandon (Ok u) = done
+reply_of_abandon (Err back) = refused (OfStore back.fault)

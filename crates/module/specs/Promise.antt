@@ -15,14 +15,14 @@ use Rattle.module.specs.declared.call.Call.TheVariants.{OnAxis}
 use Rattle.module.specs.declared.three.Drives.{Drives}
 use Rattle.module.specs.declared.three.NotMade.{NotMade}
 use Rattle.module.specs.declared.runs.Ran.{Ran}
-use Rattle.module.specs.Machine.{Told, done, said_by, new_machine, step, reply, after, replies}
-use Rattle.module.specs.Heard.{Which, number, axis_at, Heard, heard, data_said, zero_said, offset_said, tool_said, reference_said, ticks_of}
+use Rattle.module.specs.Machine.{Reply, done, reply_by, new_machine, step, reply, after, replies}
+use Rattle.module.specs.History.{Which, number, axis_at, PastAct, history, data_in, zero_in, offset_in, tool_in, reference_in, ticks_of}
 use Rattle.module.specs.Given.{accepted, sets_offset, adds_offset, sets_tool, adds_tool, LastAndAfter}
 use Rattle.module.specs.State.{Machine}
 
 -- EXACT: the replies, and the drives after the calls, are the machine's
-pub record Exact (x y z : Meaning) (calls : List Call) (told : List Told) (x′ y′ z′ : Meaning) : Type 0 where
-  pub replies : told ≡ replies (new_machine x y z) calls
+pub record Exact (x y z : Meaning) (calls : List Call) (answers : List Reply) (x′ y′ z′ : Meaning) : Type 0 where
+  pub replies : answers ≡ replies (new_machine x y z) calls
   pub first : x′ ≡ (after (new_machine x y z) calls).first.drive
   pub second : y′ ≡ (after (new_machine x y z) calls).second.drive
   pub third : z′ ≡ (after (new_machine x y z) calls).third.drive
@@ -38,19 +38,19 @@ count w s calls = (axis_at w (after s calls)).drive.count
 
 -- with machine data, the pulses from the zero that the last zeroing set and the coordinate lie within half a unit or half a
 -- pulse of each other, whichever is more
-abbrev pub DriftBound : Which → Machine → List Call → List Heard → Type 0
-DriftBound w s calls hs = (d : RawData) → data_said hs None ≡ Some d
-    → Near d.units d.pulses (count w s calls -ℤ zero_said hs None (pos 0)) (shows w s calls).coordinate
+abbrev pub DriftBound : Which → Machine → List Call → List PastAct → Type 0
+DriftBound w s calls hs = (d : RawData) → data_in hs None ≡ Some d
+    → Near d.units d.pulses (count w s calls -ℤ zero_in hs None (pos 0)) (shows w s calls).coordinate
 
 -- with no program running or held, the shift is what the accepted orders gave: Z and T, each the last value that an accepted
 -- act set and what was added to it after that
-abbrev pub ShiftLaw : Which → Machine → List Call → List Heard → Type 0
+abbrev pub ShiftLaw : Which → Machine → List Call → List PastAct → Type 0
 ShiftLaw w s calls hs = course_of (axis_at w (after s calls)).status.work.phase ≡ None
-    → (shows w s calls).shift ≡ offset_said hs (pos 0) +ℤ tool_said hs (pos 0)
+    → (shows w s calls).shift ≡ offset_in hs (pos 0) +ℤ tool_in hs (pos 0)
 
 -- with a reference, the coordinate is within the limits
-abbrev pub LimitsLaw : Which → Machine → List Call → List Heard → Type 0
-LimitsLaw w s calls hs = (d : RawData) → data_said hs None ≡ Some d → reference_said hs false ≡ true → InLimits d (shows w s calls).coordinate
+abbrev pub LimitsLaw : Which → Machine → List Call → List PastAct → Type 0
+LimitsLaw w s calls hs = (d : RawData) → data_in hs None ≡ Some d → reference_in hs false ≡ true → InLimits d (shows w s calls).coordinate
 
 -- once the calls that follow have n ticks of the axis, some front of them with at most n leaves it standing
 abbrev pub StandsWithin : Which → ℕ → Machine → List Call → Type 0
@@ -69,23 +69,23 @@ StopLaw w s calls = (before later : List Call) (o : Order)
 abbrev pub PulsesTaken : Which → Machine → List Call → Type 0
 PulsesTaken w s calls = TakenIn (axis_at w (after s calls)).status.work.phase (axis_at w (after s calls))
 
-pub record NoDrift (w : Which) (s : Machine) (calls : List Call) (hs : List Heard) : Type 0 where
+pub record NoDrift (w : Which) (s : Machine) (calls : List Call) (hs : List PastAct) : Type 0 where
   pub drift : DriftBound w s calls hs
   pub shift : ShiftLaw w s calls hs
-  pub offset : LastAndAfter sets_offset adds_offset (accepted hs) (offset_said hs (pos 0))
-  pub tool : LastAndAfter sets_tool adds_tool (accepted hs) (tool_said hs (pos 0))
+  pub offset : LastAndAfter sets_offset adds_offset (accepted hs) (offset_in hs (pos 0))
+  pub tool : LastAndAfter sets_tool adds_tool (accepted hs) (tool_in hs (pos 0))
   pub limits : LimitsLaw w s calls hs
   pub stop : StopLaw w s calls
   pub taken : PulsesTaken w s calls
 
 -- THE PROMISE
-pub record Promise (x y z : Meaning) (calls : List Call) (told : List Told) (x′ y′ z′ : Meaning) : Type 0 where
-  pub exact : Exact x y z calls told x′ y′ z′
-  pub no_drift : (w : Which) → NoDrift w (new_machine x y z) calls (heard w (new_machine x y z) calls told)
+pub record Promise (x y z : Meaning) (calls : List Call) (answers : List Reply) (x′ y′ z′ : Meaning) : Type 0 where
+  pub exact : Exact x y z calls answers x′ y′ z′
+  pub no_drift : (w : Which) → NoDrift w (new_machine x y z) calls (history w (new_machine x y z) calls answers)
 
 -- a run keeps the promise; without memory the drives come back as they were
 abbrev pub Answered : {X Y Z : Type 0} → (X → Meaning) → (Y → Meaning) → (Z → Meaning) → Drives X Y Z → List Call → Result (Ran X Y Z) (NotMade X Y Z) → Type 0
 Answered mx my mz drives calls (Ok ran) =
-    Promise (mx drives.first) (my drives.second) (mz drives.third) calls (map said_by (vec_items ran.replies))
+    Promise (mx drives.first) (my drives.second) (mz drives.third) calls (map reply_by (vec_items ran.replies))
     (mx ran.drives.first) (my ran.drives.second) (mz ran.drives.third)
 Answered mx my mz drives calls (Err n) = n.drives ≡ drives

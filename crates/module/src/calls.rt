@@ -1,7 +1,7 @@
 ghost use Rattle.std.specs.Prelude.{◌≡◌, ◌||◌, true, false};
 ghost use Rattle.module.specs.declared.call.Act.TheVariants.{Enter, Delete, Order as Ordering, Level, Tick, Observe};
 ghost use Rattle.module.specs.declared.call.Call.TheVariants.{OnAxis, DeleteProgram};
-ghost use Rattle.module.specs.Machine.{said_by, reply, step, refusal_in, shown_in, in_use};
+ghost use Rattle.module.specs.Machine.{reply_by, reply, step, refusal_in, shown_in, in_use};
 
 use crate::call::{Act, Answer, Call};
 use crate::fault::Fault;
@@ -17,7 +17,7 @@ use store::StoreFault;
 impl<X: Drive, Y: Drive, Z: Drive> Module<X, Y, Z> {
     /// A call as it comes over the cable. An entry is then named by its number.
     pub fn call(&mut self, call: Call) -> Result<Answer, Fault>
-        ensures value { said_by result ≡ reply call.entry self.old }
+        ensures value { reply_by result ≡ reply call.entry self.old }
         ensures after { self.new ≡ step call.entry self.old }
     {
         match call {
@@ -32,7 +32,7 @@ impl<X: Drive, Y: Drive, Z: Drive> Module<X, Y, Z> {
     }
 
     fn on_axis(&mut self, axis: u8, act: Act) -> Result<Answer, Fault>
-        ensures value { said_by result ≡ reply (OnAxis axis act) self.old }
+        ensures value { reply_by result ≡ reply (OnAxis axis act) self.old }
         ensures after { self.new ≡ step (OnAxis axis act) self.old }
     {
         let answer = match axis {

@@ -1,7 +1,7 @@
 ghost use Rattle.std.specs.Prelude.{◌≡◌};
 ghost use Rattle.store.specs.Entry.{close_answer, abandon_answer};
 ghost use Rattle.module.specs.declared.call.Call.TheVariants.{Open, Close, Abandon};
-ghost use Rattle.module.specs.Machine.{opened_reply, opening_told, closing_told, abandoning_told, adding_reply, adding, refusal_in, reply, step};
+ghost use Rattle.module.specs.Machine.{opened_reply, reply_of_open, reply_of_close, reply_of_abandon, adding_reply, adding, refusal_in, reply, step};
 
 use crate::fault::Fault;
 use crate::three::Module;
@@ -14,7 +14,7 @@ impl<X: Drive, Y: Drive, Z: Drive> Module<X, Y, Z> {
     /// Opens the entry of a program and gives its token: 26 to 29.
     pub fn open(&mut self, number: u8, measure: Measure) -> Result<Entry, Fault>
         ensures value { result ≡ opened_reply number self.old }
-        ensures told { opening_told result ≡ reply (Open number measure) self.old }
+        ensures reply { reply_of_open result ≡ reply (Open number measure) self.old }
         ensures after { self.new ≡ step (Open number measure) self.old }
     {
         Ok(self.store.open(number, measure)?)
@@ -31,7 +31,7 @@ impl<X: Drive, Y: Drive, Z: Drive> Module<X, Y, Z> {
     /// Closes the open entry: 30 hands the token back, 35 ends the entry with its lines.
     pub fn close(&mut self, entry: Entry) -> Result<(), CloseRefusal>
         ensures value { result ≡ close_answer entry self.old.programs }
-        ensures told { closing_told result ≡ reply (Close entry.number) self.old }
+        ensures reply { reply_of_close result ≡ reply (Close entry.number) self.old }
         ensures after { self.new ≡ step (Close entry.number) self.old }
     {
         self.store.close(entry)
@@ -40,7 +40,7 @@ impl<X: Drive, Y: Drive, Z: Drive> Module<X, Y, Z> {
     /// Ends the open entry; its lines are gone. 30 hands the token back.
     pub fn abandon(&mut self, entry: Entry) -> Result<(), HandedBack>
         ensures value { result ≡ abandon_answer entry self.old.programs }
-        ensures told { abandoning_told result ≡ reply (Abandon entry.number) self.old }
+        ensures reply { reply_of_abandon result ≡ reply (Abandon entry.number) self.old }
         ensures after { self.new ≡ step (Abandon entry.number) self.old }
     {
         self.store.abandon(entry)

@@ -4,7 +4,7 @@ use Rattle.module.specs.declared.call.Act.TheVariants.{Tick}
 use Rattle.module.specs.declared.call.Call.TheVariants.{OnAxis}
 use Rattle.module.specs.declared.fault.Fault.{Fault}
 use Rattle.module.specs.State.{Machine}
-use Rattle.module.specs.Machine.{Told, done, shown, refused, reply, step}
+use Rattle.module.specs.Machine.{Reply, done, shown, refused, reply, step}
 
 -- how many ticks were made, the fault of the last one, and what they leave
 pub record Counted : Type 0 where
@@ -13,7 +13,7 @@ pub record Counted : Type 0 where
   pub left : Machine
 
 -- a tick is answered: where it is not refused, more may follow
-abbrev pub go_on : Told → ℕ → Machine → Counted → Counted
+abbrev pub go_on : Reply → ℕ → Machine → Counted → Counted
 go_on done made s more = more
 go_on (shown o) made s more = more
 go_on (refused f) made s more = record { made = made; fault = Some f; left = s }

@@ -1,5 +1,5 @@
 ghost use Rattle.std.specs.Prelude.{◌≡◌, ◌∷◌, []};
-ghost use Rattle.module.specs.Machine.{said_by, reply, step};
+ghost use Rattle.module.specs.Machine.{reply_by, reply, step};
 ghost use Rattle.rail.specs.Ticks.{counted};
 
 use crate::account::Account;
@@ -41,7 +41,7 @@ impl Bench {
 
     /// Makes a call, and keeps for the account what it sent and its fault.
     pub fn call(&mut self, call: Call) -> Result<Answer, Fault>
-        ensures value { said_by result ≡ reply call.entry self.old.module }
+        ensures value { reply_by result ≡ reply call.entry self.old.module }
         ensures after { self.new.module ≡ step call.entry self.old.module }
     {
         let reply = self.module.call(call);

@@ -1,7 +1,7 @@
 use Rattle.std.proofs.Common.{arith, map, vec_items}
 use Rattle.std.proofs.lemmas.Grind.{common_steps}
 use Rattle.std.proofs.lemmas.List.{map-append}
-use Rattle.module.specs.Machine.{said_by}
+use Rattle.module.specs.Machine.{reply_by}
 use Rattle.module.proofs.Longer.{after-more, replies-more}
 use Rattle.module.proofs.Promised.{promised}
 use Rattle.module.proofs.Worked.{worked}
@@ -19,7 +19,7 @@ returns-clause-promise g c =
     let y = g.Y.Drive.meaning in
     let z = g.Z.Drive.meaning in
     promised (x old.first) (y old.second) (z old.third) (g.met.X.Drive.sound old.first) (g.met.Y.Drive.sound old.second)
-    (g.met.Z.Drive.sound old.third) c.args.calls.now (map said_by (vec_items c.loop-call.replies)) (x new.first) (y new.second)
+    (g.met.Z.Drive.sound old.third) c.args.calls.now (map reply_by (vec_items c.loop-call.replies)) (x new.first) (y new.second)
     (z new.third) (grind (arith, common_steps))
 
 pub returns-in-Err-clause-examples : goal.returns-in-Err-clause-examples

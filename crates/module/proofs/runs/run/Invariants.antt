@@ -1,5 +1,5 @@
 use Rattle.std.proofs.Common.{◌≡◌, ◌≤◌, length, take, map, vec_len, vec_items, vec_capacity}
-use Rattle.module.specs.Machine.{said_by, after, replies}
+use Rattle.module.specs.Machine.{reply_by, after, replies}
 use Rattle.module.proofs.runs.run.Given as goal
 
 -- so far each reply is the machine's, and there is room for all
@@ -9,4 +9,4 @@ invariant-loop-call g l =
     × (vec_len l.replies ≡ l.call-index)
     × (length l.calls ≤ vec_capacity l.replies)
     × (l.module ≡ after l.initial.module (take l.call-index l.calls))
-    × (map said_by (vec_items l.replies) ≡ replies l.initial.module (take l.call-index l.calls))
+    × (map reply_by (vec_items l.replies) ≡ replies l.initial.module (take l.call-index l.calls))

@@ -4,19 +4,19 @@ use Rattle.module.specs.declared.call.Answer.{Answer}
 use Rattle.module.specs.declared.call.Answer.TheVariants as answer
 use Rattle.module.specs.declared.call.Call.TheVariants.{OnAxis}
 use Rattle.module.specs.State.{Machine}
-use Rattle.module.specs.Machine.{Told, said_by, reply, step}
+use Rattle.module.specs.Machine.{Reply, reply_by, reply, step}
 use Rattle.rail.specs.Ticks.{Counted, go_on, counted}
 use Rattle.rail.proofs.bench.Bench.ticks.Goals as goal
 
--- tick i of m, by what it is told and what it leaves
-tick_of : (m i n : ℕ) (s left : Machine) (r : Told) → i < m → r ≡ reply (OnAxis n Tick) s → left ≡ step (OnAxis n Tick) s
+-- tick i of m, by its reply and what it leaves
+tick_of : (m i n : ℕ) (s left : Machine) (r : Reply) → i < m → r ≡ reply (OnAxis n Tick) s → left ≡ step (OnAxis n Tick) s
     → go_on r (i + 1) left (counted (m - (i + 1)) (i + 1) n left) ≡ counted (m - i) i n s
 tick_of m i n s left r h e l =
     let more : m - i ≡ suc (m - (i + 1)) = omega (arith, h) in
     ap (λ s′. go_on r (i + 1) s′ (counted (m - (i + 1)) (i + 1) n s′)) l
     ∙ (ap (λ q. go_on q (i + 1) (step (OnAxis n Tick) s) (counted (m - (i + 1)) (i + 1) n (step (OnAxis n Tick) s))) e ∙ ap (λ k. counted k i n s) (sym more))
 
-goes_on : (a : Answer) (made : ℕ) (s : Machine) (more : Counted) → go_on (said_by (Ok a)) made s more ≡ more
+goes_on : (a : Answer) (made : ℕ) (s : Machine) (more : Counted) → go_on (reply_by (Ok a)) made s more ≡ more
 goes_on answer.Done made s more = refl
 goes_on (answer.Shown o) made s more = refl
 

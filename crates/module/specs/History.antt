@@ -11,7 +11,7 @@ use Rattle.module.specs.declared.call.Call.{Call}
 use Rattle.module.specs.declared.call.Call.TheVariants.{OnAxis, Open, Add, Close, Abandon, DeleteProgram}
 use Rattle.module.specs.Faults.{number_of}
 use Rattle.module.specs.State.{Machine}
-use Rattle.module.specs.Machine.{Told, done, shown, refused, step}
+use Rattle.module.specs.Machine.{Reply, done, shown, refused, step}
 
 pub data Which : Type 0 where
   first : Which
@@ -45,68 +45,68 @@ act_on w (Close n) = None
 act_on w (Abandon n) = None
 act_on w (DeleteProgram n) = None
 
--- an act of an axis, the count of its drive when it came, and what it was told
-pub record Heard : Type 0 where
+-- an act of an axis, the count of its drive when it came, and the reply
+pub record PastAct : Type 0 where
   pub act : one.Act
   pub count : ℤ
-  pub told : Told
+  pub reply : Reply
 
-abbrev pub hear : Option one.Act → ℤ → Told → List Heard → List Heard
-hear None count told hs = hs
-hear (Some act) count told hs = record { act = act; count = count; told = told } ∷ hs
+abbrev pub with_act : Option one.Act → ℤ → Reply → List PastAct → List PastAct
+with_act None count reply hs = hs
+with_act (Some act) count reply hs = record { act = act; count = count; reply = reply } ∷ hs
 
--- of a list of calls with what each was told
-abbrev pub heard : Which → Machine → List Call → List Told → List Heard
-heard w s [] ts = []
-heard w s (c ∷ cs) [] = []
-heard w s (c ∷ cs) (t ∷ ts) = hear (act_on w c) (axis_at w s).drive.count t (heard w (step c s) cs ts)
+-- of a list of calls with the reply to each
+abbrev pub history : Which → Machine → List Call → List Reply → List PastAct
+history w s [] ts = []
+history w s (c ∷ cs) [] = []
+history w s (c ∷ cs) (t ∷ ts) = with_act (act_on w c) (axis_at w s).drive.count t (history w (step c s) cs ts)
 
-abbrev pub is_done : Told → Bool
+abbrev pub is_done : Reply → Bool
 is_done done = true
 is_done (shown o) = true
 is_done (refused f) = false
 
 -- the machine data: those of the last accepted entry, none after an accepted deletion
-abbrev pub data_next : Heard → Option RawData → Option RawData
-data_next h o = cond (is_done h.told) (data_after h.act o) o
+abbrev pub data_next : PastAct → Option RawData → Option RawData
+data_next h o = cond (is_done h.reply) (data_after h.act o) o
 
-abbrev pub data_said : List Heard → Option RawData → Option RawData
-data_said [] o = o
-data_said (h ∷ hs) o = data_said hs (data_next h o)
+abbrev pub data_in : List PastAct → Option RawData → Option RawData
+data_in [] o = o
+data_in (h ∷ hs) o = data_in hs (data_next h o)
 
 -- the zero that the last zeroing set
-abbrev pub zero_next : Heard → Option RawData → ℤ → ℤ
-zero_next h o z = cond (is_done h.told) (zero_after h.act o h.count z) z
+abbrev pub zero_next : PastAct → Option RawData → ℤ → ℤ
+zero_next h o z = cond (is_done h.reply) (zero_after h.act o h.count z) z
 
-abbrev pub zero_said : List Heard → Option RawData → ℤ → ℤ
-zero_said [] o z = z
-zero_said (h ∷ hs) o z = zero_said hs (data_next h o) (zero_next h o z)
+abbrev pub zero_in : List PastAct → Option RawData → ℤ → ℤ
+zero_in [] o z = z
+zero_in (h ∷ hs) o z = zero_in hs (data_next h o) (zero_next h o z)
 
 -- the values of mode 12 to 14, and the tool values of 15 and 16, of accepted orders since the machine data came
-abbrev pub offset_said : List Heard → ℤ → ℤ
-offset_said [] z = z
-offset_said (h ∷ hs) z = offset_said hs (cond (is_done h.told) (offset_after h.act z) z)
+abbrev pub offset_in : List PastAct → ℤ → ℤ
+offset_in [] z = z
+offset_in (h ∷ hs) z = offset_in hs (cond (is_done h.reply) (offset_after h.act z) z)
 
-abbrev pub tool_said : List Heard → ℤ → ℤ
-tool_said [] t = t
-tool_said (h ∷ hs) t = tool_said hs (cond (is_done h.told) (tool_after h.act t) t)
+abbrev pub tool_in : List PastAct → ℤ → ℤ
+tool_in [] t = t
+tool_in (h ∷ hs) t = tool_in hs (cond (is_done h.reply) (tool_after h.act t) t)
 
--- the reference: from an accepted order of mode 5 until machine data are entered or deleted, or a tick is told 23 or 24
-abbrev pub loses : Told → Bool
+-- the reference: from an accepted order of mode 5 until machine data are entered or deleted, or a tick is answered 23 or 24
+abbrev pub loses : Reply → Bool
 loses done = false
 loses (shown o) = false
 loses (refused f) = number_of f == 23 || number_of f == 24
 
-abbrev pub reference_next : one.Act → Told → Bool → Bool
-reference_next (one.entering d) told r = cond (is_done told) false r
-reference_next one.deleting told r = cond (is_done told) false r
-reference_next (one.ordering o) told r = cond (is_done told) (cond (o.mode == 5) true r) r
-reference_next (one.levelling begin end ready) told r = r
-reference_next one.ticking told r = cond (loses told) false r
+abbrev pub reference_next : one.Act → Reply → Bool → Bool
+reference_next (one.entering d) reply r = cond (is_done reply) false r
+reference_next one.deleting reply r = cond (is_done reply) false r
+reference_next (one.ordering o) reply r = cond (is_done reply) (cond (o.mode == 5) true r) r
+reference_next (one.levelling begin end ready) reply r = r
+reference_next one.ticking reply r = cond (loses reply) false r
 
-abbrev pub reference_said : List Heard → Bool → Bool
-reference_said [] r = r
-reference_said (h ∷ hs) r = reference_said hs (reference_next h.act h.told r)
+abbrev pub reference_in : List PastAct → Bool → Bool
+reference_in [] r = r
+reference_in (h ∷ hs) r = reference_in hs (reference_next h.act h.reply r)
 
 -- how many ticks of an axis there are among the calls
 abbrev pub is_tick : Option one.Act → ℕ
