@@ -1,5 +1,5 @@
 use crate::explain::in_words;
-use module::{Answer, Fault};
+use module::Fault;
 use std::fmt;
 
 /// What the closing account tells of an axis beside its place.
@@ -23,11 +23,11 @@ impl Account {
     }
 
     /// After a call: what was sent since the one before, and the fault where it is this axis's.
-    pub fn note(&mut self, count: i64, reply: Result<Answer, Fault>) {
+    pub fn note(&mut self, count: i64, fault: Option<Fault>) {
         self.sent = self.sent.saturating_add(count.abs_diff(self.count));
         self.count = count;
-        match reply {
-            Err(Fault::OfAxis { axis, .. }) if axis == self.axis => self.fault = reply.err(),
+        match fault {
+            Some(Fault::OfAxis { axis, .. }) if axis == self.axis => self.fault = fault,
             _ => {}
         }
     }

@@ -1,12 +1,14 @@
 ghost use Rattle.std.specs.Prelude.{◌≡◌, ◌∷◌, []};
-ghost use Rattle.module.specs.Machine.{reply_by, reply, step};
+ghost use Rattle.module.specs.declared.call.Act.TheVariants.{Tick};
+ghost use Rattle.module.specs.declared.call.Call.TheVariants.{OnAxis};
+ghost use Rattle.module.specs.Machine.{reply_by, refusal_in, reply, step};
 ghost use Rattle.rail.specs.Ticks.{counted};
 
 use crate::account::Account;
 use crate::build::{Build, Layers, Position};
 use crate::fault::Placed;
 use drives::drive::Drive;
-use module::{Act, Answer, Call, Drives, Fault, Module};
+use module::{Answer, Call, Drives, Fault, Module};
 use std::alloc::{AllocError, Global};
 use std::fmt;
 
@@ -45,23 +47,36 @@ impl Bench {
         ensures after { self.new.module ≡ step call.entry self.old.module }
     {
         let reply = self.module.call(call);
-        let [first, second, third] = self.counts();
-        self.accounts[0].note(first, reply);
-        self.accounts[1].note(second, reply);
-        self.accounts[2].note(third, reply);
+        self.note(reply.err());
         reply
     }
 
+    // A tick, by its own form: a `Call` holds machine data for an entry and would be copied on its way down.
+    fn tick(&mut self, axis: u8) -> Result<(), Fault>
+        ensures value { result ≡ refusal_in (reply (OnAxis axis Tick) self.old.module) }
+        ensures after { self.new.module ≡ step (OnAxis axis Tick) self.old.module }
+    {
+        let reply = self.module.tick(axis);
+        self.note(reply.err());
+        reply
+    }
+
+    fn note(&mut self, fault: Option<Fault>)
+        ensures { self.new.module ≡ self.old.module }
+    {
+        let [first, second, third] = self.counts();
+        self.accounts[0].note(first, fault);
+        self.accounts[1].note(second, fault);
+        self.accounts[2].note(third, fault);
+    }
+
     /// Makes up to so many ticks; the last one made is the first that answers a fault.
+    #[tactic(auto, using(crate::proofs::NextTick::next_tick))]
     pub fn ticks(&mut self, axis: u8, count: u32) -> Ticks
         ensures { record { made = result.made; fault = result.fault; left = self.new.module } ≡ counted count 0 axis self.old.module }
     {
-        let tick = Call::OnAxis {
-            axis,
-            act: Act::Tick,
-        };
         for before in 0..count {
-            if let Err(fault) = self.call(tick) {
+            if let Err(fault) = self.tick(axis) {
                 return Ticks {
                     made: before + 1,
                     fault: Some(fault),
