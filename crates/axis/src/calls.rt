@@ -14,6 +14,8 @@ use store::Store;
 
 impl<D: Drive> Axis<D> {
     /// Machine data entry: 3, 4, 5. Entering is a zeroing.
+    // Not inlined, since it needs 48 KiB of stack for the ramp, which each call of its caller would prepare.
+    #[inline(never)]
     pub fn enter(&mut self, raw: RawData) -> Result<(), AxisFault>
         ensures value { result ≡ enter_reply raw self.old.status }
         ensures after { self.new ≡ enter_axis raw self.old }
