@@ -1,6 +1,7 @@
 pub mod State
 pub mod Faults
 pub mod Machine
+pub mod Replies
 pub mod Made
 pub mod History
 pub mod Given

@@ -1,19 +1,14 @@
 -- The coordinate machine: what each call makes of three axes and the programs, and what it is answered.
 use Rattle.std.specs.Prelude.{ℕ, Bool, cond, ◌||◌, List, [], ◌∷◌, is_some, Some, None, Ok, Err, Option, Result, ◌==◌}
 use Rattle.drives.specs.Meaning.{Meaning}
-use Rattle.store.specs.declared.entry.Entry.{Entry}
-use Rattle.store.specs.declared.entry.HandedBack.{HandedBack}
-use Rattle.store.specs.declared.entry.CloseRefusal.{CloseRefusal}
-use Rattle.store.specs.declared.entry.CloseRefusal.TheVariants.{NotThisOne, Ended}
 use Rattle.store.specs.declared.fault.StoreFault.{StoreFault}
 use Rattle.store.specs.declared.fault.StoreFault.TheVariants.{NotStored}
 use Rattle.store.specs.Programs.{Programs, empty, found}
-use Rattle.store.specs.Entry.{open_done, open_reply, opened, add_reply, added, close_reply, closed, abandon_reply, abandoned, deleted}
+use Rattle.store.specs.Entry.{open_done, opened, add_reply, added, close_reply, closed, abandon_reply, abandoned, deleted}
 use Rattle.states.specs.declared.fault.AxisFault.{AxisFault}
-use Rattle.states.specs.declared.observation.Observation.{Observation}
 use Rattle.states.specs.State.{AxisState, uses}
 use Rattle.states.specs.Entry.{enter_reply, delete_reply}
-use Rattle.states.specs.Observation.{Shown, shown_by, observed}
+use Rattle.states.specs.Observation.{Shown, observed}
 use Rattle.orders.specs.Orders.{names_program, order_reply}
 use Rattle.ticks.specs.Ticks.{tick_step, tick_reply}
 use Rattle.laws.specs.Acts.{enter_axis, delete_axis, order_axis, levels_step, new_axis}
@@ -21,8 +16,6 @@ use Rattle.module.specs.declared.call.Act.{Act}
 use Rattle.module.specs.declared.call.Act.TheVariants.{Enter, Delete, Order, Level, Tick, Observe}
 use Rattle.module.specs.declared.call.Call.{Call}
 use Rattle.module.specs.declared.call.Call.TheVariants.{OnAxis, Open, Add, Close, Abandon, DeleteProgram}
-use Rattle.module.specs.declared.call.Answer.{Answer}
-use Rattle.module.specs.declared.call.Answer.TheVariants as answer
 use Rattle.module.specs.declared.fault.Fault.{Fault}
 use Rattle.module.specs.declared.fault.Fault.TheVariants.{NoSuchAxis, OfAxis, OfStore, InUse}
 use Rattle.module.specs.State.{Machine}
@@ -142,46 +135,3 @@ after s (c ∷ cs) = after (step c s) cs
 abbrev pub replies : Machine → List Call → List Reply
 replies s [] = []
 replies s (c ∷ cs) = reply c s ∷ replies (step c s) cs
-
--- WHAT THE CODE'S ANSWERS SAY
-
-abbrev pub answer_by : Result Answer AxisFault → Result (Option Shown) AxisFault
-answer_by (Ok answer.Done) = Ok None
-answer_by (Ok (answer.Shown o)) = Ok (Some (shown_by o))
-answer_by (Err f) = Err f
-
-abbrev pub reply_by : Result Answer Fault → Reply
-reply_by (Ok answer.Done) = done
-reply_by (Ok (answer.Shown o)) = shown (shown_by o)
-reply_by (Err f) = refused f
-
-abbrev pub shown_in : Result Observation Fault → Reply
-shown_in (Ok o) = shown (shown_by o)
-shown_in (Err f) = refused f
-
-abbrev pub refusal_in : Reply → Result (Unit {0}) Fault
-refusal_in done = Ok tt
-refusal_in (shown o) = Ok tt
-refusal_in (refused f) = Err f
-
--- opening by token
-abbrev pub token_or : Result Entry StoreFault → Result Entry Fault
-token_or (Ok e) = Ok e
-token_or (Err f) = Err (OfStore f)
-
-abbrev pub opened_reply : ℕ → Machine → Result Entry Fault
-opened_reply n s = token_or (open_reply n s.programs)
-
--- what the calls by token are answered, apart from the token that is given or handed back
-abbrev pub reply_of_open : Result Entry Fault → Reply
-reply_of_open (Ok e) = done
-reply_of_open (Err f) = refused f
-
-abbrev pub reply_of_close : Result (Unit {0}) CloseRefusal → Reply
-reply_of_close (Ok u) = done
-reply_of_close (Err (NotThisOne back)) = refused (OfStore back.fault)
-reply_of_close (Err (Ended f)) = refused (OfStore f)
-
-abbrev pub reply_of_abandon : Result (Unit {0}) HandedBack → Reply
-reply_of_abandon (Ok u) = done
-reply_of_abandon (Err back) = refused (OfStore back.fault)

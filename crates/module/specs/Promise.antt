@@ -15,7 +15,8 @@ use Rattle.module.specs.declared.call.Call.TheVariants.{OnAxis}
 use Rattle.module.specs.declared.three.Drives.{Drives}
 use Rattle.module.specs.declared.three.NotMade.{NotMade}
 use Rattle.module.specs.declared.runs.Ran.{Ran}
-use Rattle.module.specs.Machine.{Reply, done, reply_by, new_machine, step, reply, after, replies}
+use Rattle.module.specs.Machine.{Reply, done, new_machine, step, reply, after, replies}
+use Rattle.module.specs.Replies.{reply_by}
 use Rattle.module.specs.History.{Which, number, axis_at, PastAct, history, data_in, zero_in, offset_in, tool_in, reference_in, ticks_of}
 use Rattle.module.specs.Given.{accepted, sets_offset, adds_offset, sets_tool, adds_tool, LastAndAfter}
 use Rattle.module.specs.State.{Machine}

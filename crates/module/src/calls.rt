@@ -1,7 +1,8 @@
 ghost use Rattle.std.specs.Prelude.{◌≡◌, ◌||◌, true, false};
 ghost use Rattle.module.specs.declared.call.Act.TheVariants.{Enter, Delete, Order as Ordering, Level, Tick, Observe};
 ghost use Rattle.module.specs.declared.call.Call.TheVariants.{OnAxis, DeleteProgram};
-ghost use Rattle.module.specs.Machine.{reply_by, reply, step, refusal_in, shown_in, in_use};
+ghost use Rattle.module.specs.Machine.{reply, step, in_use};
+ghost use Rattle.module.specs.Replies.{reply_by, refusal_in, shown_in};
 
 use crate::call::{Act, Answer, Call};
 use crate::fault::Fault;

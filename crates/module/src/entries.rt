@@ -1,7 +1,8 @@
 ghost use Rattle.std.specs.Prelude.{◌≡◌};
 ghost use Rattle.store.specs.Entry.{close_answer, abandon_answer};
 ghost use Rattle.module.specs.declared.call.Call.TheVariants.{Open, Close, Abandon};
-ghost use Rattle.module.specs.Machine.{opened_reply, reply_of_open, reply_of_close, reply_of_abandon, adding_reply, adding, refusal_in, reply, step};
+ghost use Rattle.module.specs.Machine.{adding_reply, adding, reply, step};
+ghost use Rattle.module.specs.Replies.{opened_reply, reply_of_open, reply_of_close, reply_of_abandon, refusal_in};
 
 use crate::fault::Fault;
 use crate::three::Module;

@@ -1,5 +1,6 @@
 ghost use Rattle.std.specs.Prelude.{◌≡◌};
-ghost use Rattle.module.specs.Machine.{acted, answered, answer_by};
+ghost use Rattle.module.specs.Machine.{acted, answered};
+ghost use Rattle.module.specs.Replies.{answer_by};
 
 use crate::call::{Act, Answer};
 use axis::Axis;

@@ -3,7 +3,8 @@ use Rattle.std.proofs.Common.{◌≡◌, ℕ, suc, ◌+◌, ◌-◌, ◌<◌, ap
 use Rattle.module.specs.declared.call.Act.TheVariants.{Tick}
 use Rattle.module.specs.declared.call.Call.TheVariants.{OnAxis}
 use Rattle.module.specs.State.{Machine}
-use Rattle.module.specs.Machine.{reply, refusal_in, step}
+use Rattle.module.specs.Machine.{reply, step}
+use Rattle.module.specs.Replies.{refusal_in}
 use Rattle.rail.specs.Ticks.{go_on, counted}
 
 -- with i of m made, the next one is refused, or those after it are counted

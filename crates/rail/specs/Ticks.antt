@@ -4,7 +4,8 @@ use Rattle.module.specs.declared.call.Act.TheVariants.{Tick}
 use Rattle.module.specs.declared.call.Call.TheVariants.{OnAxis}
 use Rattle.module.specs.declared.fault.Fault.{Fault}
 use Rattle.module.specs.State.{Machine}
-use Rattle.module.specs.Machine.{reply, refusal_in, step}
+use Rattle.module.specs.Machine.{reply, step}
+use Rattle.module.specs.Replies.{refusal_in}
 
 -- how many ticks were made, the fault of the last one, and what they leave
 pub record Counted : Type 0 where

@@ -1,7 +1,8 @@
 ghost use Rattle.std.specs.Prelude.{◌≡◌, ◌∷◌, []};
 ghost use Rattle.module.specs.declared.call.Act.TheVariants.{Tick};
 ghost use Rattle.module.specs.declared.call.Call.TheVariants.{OnAxis};
-ghost use Rattle.module.specs.Machine.{reply_by, refusal_in, reply, step};
+ghost use Rattle.module.specs.Machine.{reply, step};
+ghost use Rattle.module.specs.Replies.{reply_by, refusal_in};
 ghost use Rattle.rail.specs.Ticks.{counted};
 
 use crate::account::Account;

@@ -1,7 +1,7 @@
 use Rattle.std.proofs.Common.{arith, map, vec_items}
 use Rattle.std.proofs.lemmas.Grind.{common_steps}
 use Rattle.std.proofs.lemmas.List.{map-append}
-use Rattle.module.specs.Machine.{reply_by}
+use Rattle.module.specs.Replies.{reply_by}
 use Rattle.module.proofs.Longer.{after-more, replies-more}
 use Rattle.module.proofs.Promised.{promised}
 use Rattle.module.proofs.Worked.{worked}

@@ -1,5 +1,6 @@
 use Rattle.std.proofs.Common.{◌≡◌, ◌≤◌, length, take, map, vec_len, vec_items, vec_capacity}
-use Rattle.module.specs.Machine.{reply_by, after, replies}
+use Rattle.module.specs.Machine.{after, replies}
+use Rattle.module.specs.Replies.{reply_by}
 use Rattle.module.proofs.runs.run.Given as goal
 
 -- so far each reply is the machine's, and there is room for all
