@@ -1,7 +1,7 @@
 use crate::fault::AxisFault;
 use crate::mode::Mode;
 
-/// What observing an axis answers; all but mode and M in units.
+/// What observing an axis answers. Coordinates, shift and rest are in units.
 #[derive(Clone, Copy, PartialEq, Eq, Debug)]
 pub struct Observation {
     pub mode: Mode,

@@ -20,7 +20,7 @@ pub struct Run {
 pub struct Journey {
     pub start: i32,
     pub target: i32,
-    /// pulses from the start to the target
+    /// pulses from where the drive was to those of the target
     pub distance: i64,
     /// the program whose block this is
     pub run: Option<Run>,
