@@ -1,4 +1,6 @@
+use crate::build::Build;
 use crate::mistake::{Field, Mistake};
+use crate::plan::Plan;
 use crate::script::read_line;
 
 const READ: [&[u8]; 31] = [
@@ -149,5 +151,12 @@ fn lines_of_the_form_are_read(rt: HostRuntime) {
 fn other_lines_are_told_what_is_wrong(rt: HostRuntime) {
     for (line, mistake) in REFUSED {
         assert_eq!(rt; read_line(line).err(), Some(mistake));
+    }
+}
+
+#[test]
+fn an_axis_without_a_drive_has_a_stage_at_zero(rt: HostRuntime) {
+    for build in Plan::default().builds() {
+        assert!(rt; matches!(build, Build::Clock { count: 0 }));
     }
 }
