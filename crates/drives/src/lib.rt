@@ -12,5 +12,3 @@ pub mod fault;
 pub mod replay;
 pub mod send;
 pub mod take_up;
-#[cfg(test)]
-mod tests;
