@@ -14,7 +14,7 @@ use Rattle.ticks.specs.Ticks.{with_status}
 use Rattle.laws.specs.Acts.{levels_step, enter_axis, delete_axis}
 use Rattle.laws.specs.Kept.{KeptIn, OnWay, KeptWith, KeptBy, Kept}
 use Rattle.laws.proofs.Ranges.{unrefused}
-use Rattle.laws.proofs.Referencing.{no_program}
+use Rattle.laws.proofs.Refusing.{Holding}
 
 -- an entry that is not refused has data that are not
 entry_yes : (b : Bool) (o : Option Cause) → cond b o (Some DataWhileBusy) ≡ None → o ≡ None
@@ -39,27 +39,26 @@ entered_keeps d m w f = record {
 
 -- an entry, accepted or refused
 enter_by : (o : Option Cause) (d : RawData) (a : AxisState) → enter_no d a.status ≡ o → Kept a
-    → Kept (with_status (unless o a.status (with_data (Some d) (cleared a.drive.count a.status.work) a.status)) a)
-enter_by None d a e k = record {
-  drive = k.drive;
-  holds = entered_keeps d a.drive a.status.work (unrefused d (entry_yes (stands a.status.work.phase) (data_refusal d) e));
-  shown = λ n. (refl, refl);
-  program = λ h. no_program h;
-}
-enter_by (Some c) d a e k = k
+    → Holding (with_status (unless o a.status (with_data (Some d) (cleared a.drive.count a.status.work) a.status)) a)
+enter_by None d a e k = (
+  k.drive,
+  entered_keeps d a.drive a.status.work (unrefused d (entry_yes (stands a.status.work.phase) (data_refusal d) e)),
+  λ n. (refl, refl),
+)
+enter_by (Some c) d a e k = (k.drive, k.holds, k.shown)
 
 -- entering machine data
-pub enter_keeps : (d : RawData) (a : AxisState) → Kept a → Kept (enter_axis d a)
+pub enter_keeps : (d : RawData) (a : AxisState) → Kept a → Holding (enter_axis d a)
 enter_keeps d a k = enter_by (enter_no d a.status) d a refl k
 
 -- a deletion, accepted or refused
 delete_by : (o : Option Cause) (a : AxisState) → Kept a
-    → Kept (with_status (unless o a.status (with_data None (cleared a.status.work.zero a.status.work) a.status)) a)
-delete_by None a k = record { drive = k.drive; holds = (refl, refl); shown = λ n. (refl, refl); program = λ h. no_program h }
-delete_by (Some c) a k = k
+    → Holding (with_status (unless o a.status (with_data None (cleared a.status.work.zero a.status.work) a.status)) a)
+delete_by None a k = (k.drive, (refl, refl), λ n. (refl, refl))
+delete_by (Some c) a k = (k.drive, k.holds, k.shown)
 
 -- deleting them
-pub delete_keeps : (a : AxisState) → Kept a → Kept (delete_axis a)
+pub delete_keeps : (a : AxisState) → Kept a → Holding (delete_axis a)
 delete_keeps a k = delete_by (delete_no a.status) a k
 
 -- levels change nothing but the switches and the drive's readiness
@@ -96,10 +95,9 @@ level_by (Some d) m w ready k = record {
 }
 
 -- levels
-pub levels_keeps : (begin end ready : Bool) (a : AxisState) → Kept a → Kept (levels_step begin end ready a)
-levels_keeps begin end ready a k = record {
-  drive = record { floor = k.drive.floor; low = k.drive.low; high = k.drive.high; ceiling = k.drive.ceiling };
-  holds = level_by a.status.machine a.drive a.status.work ready k.holds;
-  shown = k.shown;
-  program = k.program;
-}
+pub levels_keeps : (begin end ready : Bool) (a : AxisState) → Kept a → Holding (levels_step begin end ready a)
+levels_keeps begin end ready a k = (
+  record { floor = k.drive.floor; low = k.drive.low; high = k.drive.high; ceiling = k.drive.ceiling },
+  level_by a.status.machine a.drive a.status.work ready k.holds,
+  k.shown,
+)

@@ -2,22 +2,36 @@
 use Rattle.std.proofs.Common.{List, [], ◌∷◌, refl}
 use Rattle.drives.specs.Meaning.{Meaning, Sound}
 use Rattle.store.specs.Programs.{Programs}
-use Rattle.states.specs.State.{AxisState}
+use Rattle.states.specs.State.{AxisState, course_of}
 use Rattle.laws.specs.Acts.{Act, entering, deleting, ordering, levelling, ticking, Event, act_step, step, new_axis, after}
-use Rattle.laws.specs.Kept.{Kept}
+use Rattle.laws.specs.Kept.{Referenced, Kept}
 use Rattle.laws.specs.Laws.{Invariant, NoPulseRefused}
 use Rattle.laws.proofs.Data.{enter_keeps, delete_keeps, levels_keeps}
 use Rattle.laws.proofs.Ordered.{order_keeps}
-use Rattle.laws.proofs.Referencing.{no_program}
+use Rattle.laws.proofs.InUse.{HasReference, no_program, act_using, such_by_reference, reference_by_such}
+use Rattle.laws.proofs.Refusing.{Holding}
 use Rattle.laws.proofs.OnTick.{tick_keeps, taken_in}
 
--- each act keeps it
+-- each act keeps all but the program's reference
+act_holds : (act : Act) (p : Programs) (a : AxisState) → Kept a → Holding (act_step act p a)
+act_holds (entering d) p a k = enter_keeps d a k
+act_holds deleting p a k = delete_keeps a k
+act_holds (ordering o) p a k = order_keeps o p a k
+act_holds (levelling begin end ready) p a k = levels_keeps begin end ready a k
+act_holds ticking p a k = tick_keeps p a k
+
+-- and that
+act_referenced : (act : Act) (p : Programs) (a : AxisState) → Kept a → Referenced (act_step act p a).status.work
+act_referenced act p a k =
+    let w = a.status.work in
+    let v = (act_step act p a).status.work in
+    reference_by_such (course_of v.phase) v.referenced
+    (act_using HasReference act p a (λ o d r y. r) (such_by_reference (course_of w.phase) w.referenced k.program))
+
 pub act_keeps : (act : Act) (p : Programs) (a : AxisState) → Kept a → Kept (act_step act p a)
-act_keeps (entering d) p a k = enter_keeps d a k
-act_keeps deleting p a k = delete_keeps a k
-act_keeps (ordering o) p a k = order_keeps o p a k
-act_keeps (levelling begin end ready) p a k = levels_keeps begin end ready a k
-act_keeps ticking p a k = tick_keeps p a k
+act_keeps act p a k =
+    let h = act_holds act p a k in
+    record { drive = h.0; holds = h.1; shown = h.2; program = act_referenced act p a k }
 
 -- and so does a run
 pub run_keeps : (es : List Event) (a : AxisState) → Kept a → Kept (after a es)

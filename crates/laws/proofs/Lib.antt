@@ -18,6 +18,7 @@ pub mod TickValues
 pub mod Shifts
 pub mod Brakes
 pub mod Stops
-pub mod Referencing
+pub mod InUse
+pub mod Held
 pub mod Reckoning
 pub mod Shown

@@ -21,11 +21,10 @@ use Rattle.orders.specs.Effects.{carried_out}
 use Rattle.orders.specs.Orders.{order_fault, left}
 use Rattle.ticks.specs.Ticks.{with_status}
 use Rattle.laws.specs.Acts.{order_axis}
-use Rattle.laws.specs.Kept.{KeptIn, KeptWith, Quiet, Referenced, Kept}
+use Rattle.laws.specs.Kept.{KeptIn, KeptWith, Quiet, Kept}
 use Rattle.laws.proofs.NewMove.{attained}
 use Rattle.laws.proofs.Numbers.{program_mode}
-use Rattle.laws.proofs.Referencing.{accepted_referenced, refused_referenced}
-use Rattle.laws.proofs.Refusing.{Holds, refused_holds, halt_holds, clear_holds, mode_holds}
+use Rattle.laws.proofs.Refusing.{Holds, Holding, refused_holds, halt_holds, clear_holds, mode_holds}
 use Rattle.laws.proofs.Plans.{zero_holds, offset_holds, tool_holds, go_holds, begin_holds, resume_holds, continue_holds}
 
 module _ (o : Order) (p : Programs) (m : Meaning) (d : RawData) (w : Work) (q : Quiet w) (k : KeptWith d m w) where
@@ -108,27 +107,19 @@ accepted_holds (Some mode) o p m s e y h = command_holds o p m s.work (stops o.c
 
 -- an order, accepted or refused
 order_by : (v : Result Plan Cause) (o : Order) (p : Programs) (a : AxisState) → verdict o p a.drive a.status ≡ v → Kept a
-    → Kept (with_status (left o a.drive a.status v) a)
+    → Holding (with_status (left o a.drive a.status v) a)
 order_by (Ok plan) o p a e k =
     let m = a.drive in
     let s = a.status in
     let y = accepted (order_questions (mode_of o.mode) o p m s) (plan_for (mode_of o.mode) o m s) plan e in
     let h = accepted_holds (mode_of o.mode) o p m s refl y.0 (k.holds, k.shown) in
-    let c : Holds s.machine m (carried_out o.mode plan m s.machine s.work) =
-    subst (λ (x : Plan). Holds s.machine m (carried_out o.mode x m s.machine s.work)) y.1 h in
-    let r = accepted_referenced (mode_of o.mode) o p m s y.0 k.program in
-    record {
-      drive = k.drive;
-      holds = c.0;
-      shown = c.1;
-      program = subst (λ (x : Plan). Referenced (carried_out o.mode x m s.machine s.work)) y.1 r;
-    }
+    let l = subst (λ (x : Plan). Holds s.machine m (carried_out o.mode x m s.machine s.work)) y.1 h in
+    (k.drive, l.0, l.1)
 order_by (Err cause) o p a e k =
-    let s = a.status in
-    let f = order_fault o s.work.phase cause in
-    let h = refused_holds f s.machine a.drive s.work (k.holds, k.shown) in
-    record { drive = k.drive; holds = h.0; shown = h.1; program = refused_referenced f s.work k.program }
+    let f = order_fault o a.status.work.phase cause in
+    let l = refused_holds f a.status.machine a.drive a.status.work (k.holds, k.shown) in
+    (k.drive, l.0, l.1)
 
 -- every order
-pub order_keeps : (o : Order) (p : Programs) (a : AxisState) → Kept a → Kept (order_axis o p a)
+pub order_keeps : (o : Order) (p : Programs) (a : AxisState) → Kept a → Holding (order_axis o p a)
 order_keeps o p a k = order_by (verdict o p a.drive a.status) o p a refl k

@@ -1,10 +1,10 @@
 -- What every axis keeps through a stop, a refused order, an order that clears the fault and one that sets the mode.
 use Rattle.std.proofs.Common.{◌≡◌, ℕ, Bool, true, false, cond, eqb, ℤ, Some, None, Option, refl, ap, ◌∙◌}
-use Rattle.drives.specs.Meaning.{Meaning}
+use Rattle.drives.specs.Meaning.{Meaning, Sound}
 use Rattle.motion.specs.declared.raw.RawData.{RawData}
 use Rattle.states.specs.declared.fault.AxisFault.{AxisFault}
 use Rattle.states.specs.Faults.{cause_number}
-use Rattle.states.specs.State.{Phase, standing, moving, braking, held, between, Work, with_fault, with_phase, course_of, stopped}
+use Rattle.states.specs.State.{Phase, standing, moving, braking, held, between, Work, AxisState, with_fault, with_phase, course_of, stopped}
 use Rattle.orders.specs.Effects.{taken, halted, refused_by}
 use Rattle.laws.specs.Kept.{KeptIn, KeptBy, Quiet}
 use Rattle.laws.proofs.Doing.{doing_keeps}
@@ -12,6 +12,10 @@ use Rattle.laws.proofs.Doing.{doing_keeps}
 -- what an axis keeps in its working values
 abbrev pub Holds : Option RawData → Meaning → Work → Type 0
 Holds o m w = KeptBy o m w × Quiet w
+
+-- all that an axis keeps but for its program
+abbrev pub Holding : AxisState → Type 0
+Holding a = Sound a.drive × KeptBy a.status.machine a.drive a.status.work × Quiet a.status.work
 
 -- a stop asks no more of what is being done
 stopped_keeps : (p : Phase) (d : RawData) (m : Meaning) (zero : ℤ) (r : Bool) → KeptIn p d m zero r

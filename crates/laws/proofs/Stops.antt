@@ -13,7 +13,6 @@ use Rattle.ticks.specs.Ticks.{trouble_of, unless_trouble, slow_step, tick_at, ti
 use Rattle.laws.specs.Acts.{Act, entering, deleting, ordering, levelling, ticking, Event, act_step, order_axis, is_tick, step, ticks}
 use Rattle.laws.specs.Kept.{Kept}
 use Rattle.laws.specs.Laws.{ramp_step, stands_in, StandsWithin, Stop, Braking}
-use Rattle.laws.proofs.OnTick.{tick_keeps}
 use Rattle.laws.proofs.Invariant.{act_keeps, invariant}
 use Rattle.laws.proofs.Brakes.{stop_phase, act_brakes, step_down, short_stands}
 
@@ -70,7 +69,7 @@ module _ (es : List Event) (ih : Comes es) (p : Programs) (a : AxisState) (t : T
 
   -- a tick
   tick_comes : StandsWithin n (tick_step p a) es
-  tick_comes = ticked_by a.status.work.phase e (tick_keeps p a k)
+  tick_comes = ticked_by a.status.work.phase e (act_keeps ticking p a k)
 
 -- an act that is no tick, then the rest of the run
 other_comes : (act : Act) (p : Programs) (es : List Event) → is_tick act ≡ 0 → Comes es

@@ -32,7 +32,7 @@ named_acts true Observe p a = refl
 named_acts false act p a = refl
 
 -- other programs change no axis
-store_alone : (w : Which) (p : Programs) (s : Machine) → axis_at w (with_programs p s) ≡ axis_at w s
+pub store_alone : (w : Which) (p : Programs) (s : Machine) → axis_at w (with_programs p s) ≡ axis_at w s
 store_alone first p s = refl
 store_alone second p s = refl
 store_alone third p s = refl

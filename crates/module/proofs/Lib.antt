@@ -2,6 +2,7 @@ pub mod Longer
 pub mod Axes
 pub mod Histories
 pub mod Standing
+pub mod InUse
 pub mod Promised
 pub mod Used
 pub mod Worked

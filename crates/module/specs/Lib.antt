@@ -5,5 +5,6 @@ pub mod Replies
 pub mod Made
 pub mod History
 pub mod Given
+pub mod InUse
 pub mod Promise
 pub mod Examples

@@ -19,6 +19,7 @@ use Rattle.module.specs.Machine.{Reply, done, new_machine, step, reply, after, r
 use Rattle.module.specs.Replies.{reply_by}
 use Rattle.module.specs.History.{Which, number, axis_at, PastAct, history, data_in, zero_in, offset_in, tool_in, reference_in, ticks_of}
 use Rattle.module.specs.Given.{accepted, sets_offset, adds_offset, sets_tool, adds_tool, LastAndAfter}
+use Rattle.module.specs.InUse.{ProgramsInUse}
 use Rattle.module.specs.State.{Machine}
 
 -- EXACT: the replies, and the drives after the calls, are the machine's
@@ -83,6 +84,7 @@ pub record NoDrift (w : Which) (s : Machine) (calls : List Call) (hs : List Past
 pub record Promise (x y z : Meaning) (calls : List Call) (answers : List Reply) (x′ y′ z′ : Meaning) : Type 0 where
   pub exact : Exact x y z calls answers x′ y′ z′
   pub no_drift : (w : Which) → NoDrift w (new_machine x y z) calls (history w (new_machine x y z) calls answers)
+  pub in_use : ProgramsInUse x y z calls
 
 -- a run keeps the promise; without memory the drives come back as they were
 abbrev pub Answered : {X Y Z : Type 0} → (X → Meaning) → (Y → Meaning) → (Z → Meaning) → Drives X Y Z → List Call → Result (Ran X Y Z) (NotMade X Y Z) → Type 0

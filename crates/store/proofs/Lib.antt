@@ -1,3 +1,3 @@
 mod Tables
 mod Histories
-mod Laws
+pub mod Laws
