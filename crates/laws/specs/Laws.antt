@@ -1,5 +1,5 @@
 -- Laws of the coordinate machine over every run of acts on a new axis.
-use Rattle.std.specs.Prelude.{◌≡◌, ℕ, ◌≤◌, max, Bool, true, cond, List, [], ◌∷◌, ◌++◌, ℤ, pos, ◌+ℤ◌, is_ok, None, Ok, ◌==◌}
+use Rattle.std.specs.Prelude.{◌≡◌, ◌⊎◌, ℕ, ◌≤◌, max, Bool, true, false, cond, List, [], ◌∷◌, ◌++◌, ℤ, pos, ◌+ℤ◌, is_ok, None, Ok, ◌==◌}
 use Rattle.drives.specs.Meaning.{Meaning, Sound}
 use Rattle.drives.specs.Sending.{told}
 use Rattle.motion.specs.Travel.{Going, passing}
@@ -9,6 +9,7 @@ use Rattle.states.specs.State.{Travel, Phase, standing, moving, braking, held, b
 use Rattle.states.specs.Moves.{direction_of, ticked_in, braked_in}
 use Rattle.states.specs.Shift.{shift_of}
 use Rattle.orders.specs.Modes.{stops}
+use Rattle.ticks.specs.Moving.{stopped_short}
 use Rattle.ticks.specs.Ticks.{trouble_of}
 use Rattle.laws.specs.Acts.{Act, entering, deleting, ordering, levelling, ticking, Event, act_reply, step, new_axis, after, ticks}
 use Rattle.laws.specs.Kept.{Kept}
@@ -49,22 +50,37 @@ step_of a = ramp_step a.status.work.phase
 abbrev pub stands_in : AxisState → Bool
 stands_in a = stands a.status.work.phase
 
--- some front of a run with at most n ticks leaves the axis standing
-abbrev pub StandsWithin : ℕ → AxisState → List Event → Type 0
-StandsWithin n a later = (soon : List Event) × (rest : List Event) × (later ≡ soon ++ rest) × (ticks soon ≤ n) × (stands_in (after a soon) ≡ true)
+-- what a stop leads to: a move stops short, and its program is held with the target unfinished; between blocks it is held
+abbrev pub rest_of : Phase → Phase
+rest_of standing = standing
+rest_of (moving t) = stopped_short t.target t.course
+rest_of (braking t) = stopped_short t.target t.course
+rest_of (held c u) = held c u
+rest_of (between c) = held c None
+
+-- the axis has come to that, or a stop at once has taken its reference
+abbrev pub RestsIn : Phase → AxisState → Type 0
+RestsIn p a = (a.status.work.phase ≡ p) ⊎ (a.status.work.referenced ≡ false)
+
+-- some front of a run with at most n ticks leaves the axis standing, at rest in p
+abbrev pub StandsWithin : ℕ → Phase → AxisState → List Event → Type 0
+StandsWithin n p a later =
+    (soon : List Event) × (rest : List Event) × (later ≡ soon ++ rest) × (ticks soon ≤ n)
+    × (stands_in (after a soon) ≡ true) × RestsIn p (after a soon)
 
 -- wherever a run is split at an accepted stop: once what follows has max(r, 1) ticks, r the ramp step before the stop, the
--- axis has come to stand within them, whatever comes between
+-- axis has come to stand within them, whatever comes between, and holds the program that ran
 abbrev pub Stop : Type 0
 Stop = (m : Meaning) → Sound m → (before later : List Event) (o : Order) (p : Programs) (a : AxisState)
     → a ≡ after (new_axis m) before → stops o.command ≡ true → act_reply (ordering o) p a ≡ Ok tt
-    → max (step_of a) 1 ≤ ticks later → StandsWithin (max (step_of a) 1) (step record { act = ordering o; programs = p } a) later
+    → max (step_of a) 1 ≤ ticks later
+    → StandsWithin (max (step_of a) 1) (rest_of a.status.work.phase) (step record { act = ordering o; programs = p } a) later
 
 -- a braking axis has a ramp step r and stands by the r-th tick, whatever comes between
 abbrev pub Braking : Type 0
 Braking = (m : Meaning) → Sound m → (before later : List Event) (a : AxisState) (t : Travel)
     → a ≡ after (new_axis m) before → a.status.work.phase ≡ braking t
-    → max t.going.step 1 ≤ ticks later → StandsWithin (max t.going.step 1) a later
+    → max t.going.step 1 ≤ ticks later → StandsWithin (max t.going.step 1) (rest_of (braking t)) a later
 
 -- THE SHIFT
 

@@ -4,9 +4,9 @@ use Rattle.drives.specs.Meaning.{Meaning, Sound}
 use Rattle.store.specs.Programs.{Programs}
 use Rattle.states.specs.declared.fault.AxisFault.{AxisFault}
 use Rattle.states.specs.declared.order.Order.{Order}
-use Rattle.states.specs.State.{AxisState}
+use Rattle.states.specs.State.{Phase, AxisState}
 use Rattle.laws.specs.Acts as one
-use Rattle.laws.specs.Laws.{step_of, stands_in}
+use Rattle.laws.specs.Laws.{step_of, stands_in, rest_of, RestsIn}
 use Rattle.laws.proofs.Stops.{stop}
 use Rattle.module.specs.declared.call.Act.TheVariants as act
 use Rattle.module.specs.declared.call.Call.{Call}
@@ -61,15 +61,18 @@ front w (c ∷ cs) s (e ∷ soon) rest h =
     front_one (act_on w c) w c cs s e soon rest refl h (λ (es : List one.Event). front w cs (step c s) es rest)
 
 -- so the axis stands within as many ticks of the calls
-front_stands : (w : Which) (n : ℕ) (s : Machine) (cs : List Call) (soon rest : List one.Event) → events w s cs ≡ soon ++ rest
-    → one.ticks soon ≤ n → stands_in (one.after (axis_at w s) soon) ≡ true → StandsWithin w n s cs
-front_stands w n s cs soon rest h t z k =
-    let f = front w cs s soon rest h in (
+front_stands : (w : Which) (n : ℕ) (p : Phase) (s : Machine) (cs : List Call) (soon rest : List one.Event)
+    → events w s cs ≡ soon ++ rest → one.ticks soon ≤ n → stands_in (one.after (axis_at w s) soon) ≡ true
+    → RestsIn p (one.after (axis_at w s) soon) → StandsWithin w n p s cs
+front_stands w n p s cs soon rest h t z r k =
+    let f = front w cs s soon rest h in
+    let e = after_at w f.0 s ∙ ap (λ (es : List one.Event). one.after (axis_at w s) es) f.3 in (
       f.0,
       f.1,
       f.2,
       subst (λ (i : ℕ). i ≤ n) (sym (ticks_same w f.0 s ∙ ap one.ticks f.3)) t,
-      ap stands_in (after_at w f.0 s ∙ ap (λ (es : List one.Event). one.after (axis_at w s) es) f.3) ∙ z,
+      ap stands_in e ∙ z,
+      subst (RestsIn p) (sym e) r,
     )
 
 -- an order to an axis is its act
@@ -99,5 +102,7 @@ stop_law w m sound s q calls before later o split c e h =
     let from = after_at w before s ∙ ap (λ (x : AxisState). one.after x (events w s before)) q in
     let enough = subst (λ (k : ℕ). n ≤ k) (ticks_same w later (step call t)) h in
     let f = stop m sound (events w s before) (events w (step call t) later) o p a from c yes enough in
+    let rest = rest_of a.status.work.phase in
     let z = ap (λ (x : AxisState). stands_in (one.after x f.0)) stopped ∙ f.4 in
-    front_stands w n (step call t) later f.0 f.1 f.2 f.3 z h
+    let r = subst (λ (x : AxisState). RestsIn rest (one.after x f.0)) (sym stopped) f.5 in
+    front_stands w n rest (step call t) later f.0 f.1 f.2 f.3 z r h

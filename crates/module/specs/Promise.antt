@@ -4,11 +4,11 @@ use Rattle.drives.specs.Meaning.{Meaning}
 use Rattle.motion.specs.declared.raw.RawData.{RawData}
 use Rattle.motion.specs.Laws.{Near}
 use Rattle.states.specs.declared.order.Order.{Order}
-use Rattle.states.specs.State.{course_of}
+use Rattle.states.specs.State.{Phase, course_of}
 use Rattle.states.specs.Observation.{Shown, observed}
 use Rattle.orders.specs.Modes.{stops}
 use Rattle.laws.specs.Kept.{InLimits}
-use Rattle.laws.specs.Laws.{TakenIn, step_of, stands_in}
+use Rattle.laws.specs.Laws.{TakenIn, step_of, stands_in, rest_of, RestsIn}
 use Rattle.module.specs.declared.call.Act.TheVariants as act
 use Rattle.module.specs.declared.call.Call.{Call}
 use Rattle.module.specs.declared.call.Call.TheVariants.{OnAxis}
@@ -54,18 +54,20 @@ ShiftLaw w s calls hs = course_of (axis_at w (after s calls)).status.work.phase 
 abbrev pub LimitsLaw : Which → Machine → List Call → List PastAct → Type 0
 LimitsLaw w s calls hs = (d : RawData) → data_in hs None ≡ Some d → reference_in hs false ≡ true → InLimits d (shows w s calls).coordinate
 
--- once the calls that follow have n ticks of the axis, some front of them with at most n leaves it standing
-abbrev pub StandsWithin : Which → ℕ → Machine → List Call → Type 0
-StandsWithin w n s later = n ≤ ticks_of w later
-    → (soon : List Call) × (rest : List Call) × (later ≡ soon ++ rest) × (ticks_of w soon ≤ n) × (stands_in (axis_at w (after s soon)) ≡ true)
+-- once the calls that follow have n ticks of the axis, some front of them with at most n leaves it standing, at rest in p
+abbrev pub StandsWithin : Which → ℕ → Phase → Machine → List Call → Type 0
+StandsWithin w n p s later = n ≤ ticks_of w later
+    → (soon : List Call) × (rest : List Call) × (later ≡ soon ++ rest) × (ticks_of w soon ≤ n)
+    × (stands_in (axis_at w (after s soon)) ≡ true) × RestsIn p (axis_at w (after s soon))
 
 -- wherever the calls are split at an accepted stop of the axis, with r the ramp step of its move before it, it stands within
--- max(r, 1) ticks, whatever calls come between
+-- max(r, 1) ticks, whatever calls come between, and holds the program that ran, unless 23 or 24 has taken the reference
 abbrev pub StopLaw : Which → Machine → List Call → Type 0
 StopLaw w s calls = (before later : List Call) (o : Order)
     → calls ≡ before ++ (OnAxis (number w) (act.Order o) ∷ later) → stops o.command ≡ true
     → reply (OnAxis (number w) (act.Order o)) (after s before) ≡ done
-    → StandsWithin w (max (step_of (axis_at w (after s before))) 1) (step (OnAxis (number w) (act.Order o)) (after s before)) later
+    → StandsWithin w (max (step_of (axis_at w (after s before))) 1) (rest_of (axis_at w (after s before)).status.work.phase)
+    (step (OnAxis (number w) (act.Order o)) (after s before)) later
 
 -- the drive takes every pulse that a next tick asks of it
 abbrev pub PulsesTaken : Which → Machine → List Call → Type 0
