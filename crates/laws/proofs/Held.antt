@@ -35,7 +35,7 @@ abbrev pub AnyStored : Programs → Bool → ℕ → Type 0
 AnyStored p r n = InStore p n
 
 -- a stored program has a measure, and what has one is stored
-has_one : (o : Option Program) → is_some (measure_in o) ≡ is_some o
+pub has_one : (o : Option Program) → is_some (measure_in o) ≡ is_some o
 has_one None = refl
 has_one (Some p) = refl
 

@@ -20,5 +20,6 @@ pub mod Brakes
 pub mod Stops
 pub mod InUse
 pub mod Held
+pub mod NextBlock
 pub mod Reckoning
 pub mod Shown

@@ -1,9 +1,9 @@
 -- The values that a run gives Z and T, by the last that sets one and those that add after it.
-use Rattle.std.proofs.Common.{◌≡◌, cond, List, [], ◌∷◌, ◌++◌, ℤ, pos, ◌+ℤ◌, Some, None, Option, refl, sym, ◌∙◌, ap, arith}
+use Rattle.std.proofs.Common.{◌≡◌, List, [], ◌∷◌, ◌++◌, ℤ, pos, ◌+ℤ◌, Some, None, Option, refl, ◌∙◌, ap, arith}
 use Rattle.std.proofs.lemmas.Int.{ints}
 use Rattle.laws.specs.Acts.{Act, entering, deleting, ordering, levelling, ticking}
 use Rattle.laws.specs.Laws.{offset_after, tool_after}
-use Rattle.module.specs.History.{PastAct, is_done, offset_in, tool_in}
+use Rattle.module.specs.History.{PastAct, offset_in, tool_in}
 use Rattle.module.specs.Given.{accepted, sets_offset, adds_offset, sets_tool, adds_tool, NoneSets, sum, LastAndAfter}
 
 -- acts one after another

@@ -1,85 +1,97 @@
 -- A program that an axis runs or holds stays stored through every run of calls, so that 17 is never answered.
-use Rattle.std.proofs.Common.{◌≡◌, ◌≢◌, ℕ, Bool, true, false, cond, eqb, ◌||◌, List, [], ◌∷◌, ◌++◌, is_some, Some, None, Ok, Err, Option, Result, refl, sym, ap, ◌∙◌, subst, arith}
-use Rattle.std.proofs.lemmas.Bool.{eqb-true}
+use Rattle.std.proofs.Common.{◌≡◌, ◌≢◌, ℕ, zero, suc, add-one, Bool, true, false, cond, eqb, ◌||◌, List, [], ◌∷◌, ◌++◌, is_some, Some, None, Ok, Err, Option, Result, refl, sym, ap, ◌∙◌, subst, arith}
+use Rattle.std.proofs.lemmas.Bool.{eqb-true, false≢true}
+use Rattle.std.proofs.lemmas.Option.{same_Some}
 use Rattle.std.specs.List.{AllByRecursion}
 use Rattle.drives.specs.Meaning.{Meaning}
 use Rattle.store.specs.declared.fault.StoreFault.{StoreFault}
 use Rattle.store.specs.declared.fault.StoreFault.TheVariants.{NotStored}
-use Rattle.store.specs.Programs.{Program, Programs, found}
+use Rattle.reader.specs.declared.block.Block.{Block}
+use Rattle.store.specs.Programs.{Program, Programs, empty, found, block_at, block_in}
+use Rattle.store.specs.Laws as stored
+use Rattle.store.specs.Laws.{Call as StoreCall, opening, adding, closing, abandoning, deleting, EndsOnce}
 use Rattle.store.specs.Entry.{opened, added, closed_from, closed, abandoned, deleted}
-use Rattle.store.specs.Closing.{closable}
+use Rattle.store.specs.Closing.{ends, closable}
 use Rattle.store.specs.Faults as store
-use Rattle.store.proofs.Laws.{changes}
+use Rattle.store.proofs.Histories.{run_append}
+use Rattle.store.proofs.Laws.{runs, changes}
 use Rattle.states.specs.declared.fault.Cause.{Cause}
 use Rattle.states.specs.declared.fault.Cause.TheVariants.{HeldNotStored}
 use Rattle.states.specs.declared.fault.AxisFault.{AxisFault}
 use Rattle.states.specs.Faults.{cause_number}
-use Rattle.states.specs.State.{Course, AxisState, course_of, is_of}
+use Rattle.states.specs.State.{Course, Phase, standing, moving, braking, held, between, AxisState, course_of, is_of}
 use Rattle.laws.specs.Acts as one
 use Rattle.laws.proofs.InUse.{Such}
 use Rattle.laws.proofs.Held.{InStore, Other, act_stored, act_other}
+use Rattle.laws.proofs.NextBlock.{GoesOn, AllGoOn, HasNext, NextUnlessEnded, NextIn, act_next}
 use Rattle.module.specs.declared.call.Act.{Act}
 use Rattle.module.specs.declared.call.Act.TheVariants.{Enter, Delete, Order, Level, Tick, Observe}
 use Rattle.module.specs.declared.call.Call.{Call}
 use Rattle.module.specs.declared.call.Call.TheVariants.{OnAxis, Open, Add, Close, Abandon, DeleteProgram}
 use Rattle.module.specs.declared.fault.Fault.TheVariants.{OfStore, InUse}
 use Rattle.module.specs.State.{Machine}
-use Rattle.module.specs.Machine.{Reply, done, refused, answered, done_or, at_axis, at_store, uses_in, in_use, deletion_reply, reply, with_programs, step, new_machine, after, replies}
+use Rattle.module.specs.Machine.{Reply, done, refused, answered, done_or, at_axis, at_store, uses_in, in_use, reply, with_programs, step, new_machine, after, replies}
 use Rattle.module.specs.History.{Which, first, second, third, axis_at, act_on}
-use Rattle.module.specs.InUse.{InUseStored, OtherThan, ProgramsInUse}
+use Rattle.module.specs.InUse.{InUseStored, RunningHasNext, OtherThan, ProgramsInUse}
 use Rattle.module.proofs.Axes.{left_by, store_alone, step_at}
 
--- the program of each axis is stored
-abbrev EachStored : Machine → Type 0
-EachStored s = (w : Which) → Such (InStore s.programs) (course_of (axis_at w s).status.work.phase)
+-- an axis whose program is stored and has a next block
+abbrev Fine : Programs → Phase → Type 0
+Fine p ph = Such (InStore p) (course_of ph) × NextIn p ph
 
--- other programs, among which the one in use is still stored
-such_still : (p q : Programs) (o : Option Course) → ((c : Course) → o ≡ Some c → InStore p c.program → InStore q c.program)
-    → Such (InStore p) o → Such (InStore q) o
+abbrev EachFine : Machine → Type 0
+EachFine s = (w : Which) → Fine s.programs (axis_at w s).status.work.phase
+
+-- OTHER PROGRAMS, among which the one that is in use is the same
+abbrev SameFor : Option Course → Programs → Programs → Type 0
+SameFor o p q = (c : Course) → o ≡ Some c → InStore p c.program → found c.program q.stored ≡ found c.program p.stored
+
+such_still : (p q : Programs) (o : Option Course) → SameFor o p q → Such (InStore p) o → Such (InStore q) o
 such_still p q None h u = tt
-such_still p q (Some c) h u = h c refl u
+such_still p q (Some c) h u = ap is_some (h c refl u) ∙ u
 
--- a program more takes none away
-found_still : (k : ℕ) (p : Program) (ps : List Program) → is_some (found k ps) ≡ true → is_some (found k (ps ++ p ∷ [])) ≡ true
+-- the block that comes is the same
+block_still : (p q : Programs) (c : Course) → SameFor (Some c) p q → InStore p c.program → HasNext p c → HasNext q c
+block_still p q c h u n = ap (λ (o : Option Program). is_some (block_in o c.taken)) (h c refl u) ∙ n
+
+its_still : (p q : Programs) (o : Option Course) → SameFor o p q → Such (InStore p) o → NextUnlessEnded p o → NextUnlessEnded q o
+its_still p q None h u n = tt
+its_still p q (Some c) h u n = λ e. block_still p q c h u (n e)
+
+next_still : (p q : Programs) (ph : Phase) → SameFor (course_of ph) p q → Fine p ph → NextIn q ph
+next_still p q standing h u = tt
+next_still p q (moving t) h u = its_still p q t.course h u.0 u.1
+next_still p q (braking t) h u = its_still p q t.course h u.0 u.1
+next_still p q (held c (Some target)) h u = its_still p q (Some c) h u.0 u.1
+next_still p q (held c None) h u = block_still p q c h u.0 u.1
+next_still p q (between c) h u = block_still p q c h u.0 u.1
+
+programs_fine : (q : Programs) (s : Machine) → ((w : Which) → SameFor (course_of (axis_at w s).status.work.phase) s.programs q)
+    → EachFine s → EachFine (with_programs q s)
+programs_fine q s h u w =
+    let ph = (axis_at w s).status.work.phase in
+    subst (λ (a : AxisState). Fine q a.status.work.phase) (sym (store_alone w q s))
+    (such_still s.programs q (course_of ph) (h w) (u w).0, next_still s.programs q ph (h w) (u w))
+
+-- the same programs with another entry
+same_fine : (q : Programs) (s : Machine) → q.stored ≡ s.programs.stored → EachFine s → EachFine (with_programs q s)
+same_fine q s e u = programs_fine q s (λ w c o i. ap (found c.program) e) u
+
+-- a program more leaves those that are stored
+found_still : (k : ℕ) (p : Program) (ps : List Program) → is_some (found k ps) ≡ true → found k (ps ++ p ∷ []) ≡ found k ps
 found_still k p [] e = cc
-found_still k p (q ∷ ps) e = let more : is_some (found k ps) ≡ true → is_some (found k (ps ++ p ∷ [])) ≡ true = found_still k p ps in grind arith
+found_still k p (q ∷ ps) e =
+    let more : is_some (found k ps) ≡ true → found k (ps ++ p ∷ []) ≡ found k ps = found_still k p ps in grind arith
 
 kept_still : (b c : Bool) (k : ℕ) (p : Program) (s : Programs) → InStore s k
-    → InStore (cond b (record { stored = cond c (s.stored ++ p ∷ []) s.stored; entry = None }) s) k
+    → found k (cond b (record { stored = cond c (s.stored ++ p ∷ []) s.stored; entry = None }) s).stored ≡ found k s.stored
 kept_still true true k p s e = found_still k p s.stored e
-kept_still true false k p s e = e
-kept_still false c k p s e = e
+kept_still true false k p s e = refl
+kept_still false c k p s e = refl
 
-closed_still : (o : Option Program) (n k : ℕ) (s : Programs) → InStore s k → InStore (closed_from o n s) k
-closed_still None n k s e = e
+closed_still : (o : Option Program) (n k : ℕ) (s : Programs) → InStore s k → found k (closed_from o n s).stored ≡ found k s.stored
+closed_still None n k s e = refl
 closed_still (Some p) n k s e = kept_still (eqb p.number n) (closable p.blocks) k p s e
-
--- THE STEP
-
--- an act of an axis, if there is one
-left_stored : (o : Option one.Act) (p : Programs) (a : AxisState) → Such (InStore p) (course_of a.status.work.phase)
-    → Such (InStore p) (course_of (left_by o p a).status.work.phase)
-left_stored None p a u = u
-left_stored (Some act) p a u = act_stored act p a u
-
-axis_stored : (w : Which) (c : Call) (s : Machine) → EachStored s
-    → Such (InStore s.programs) (course_of (axis_at w (step c s)).status.work.phase)
-axis_stored w c s u =
-    subst (λ (a : AxisState). Such (InStore s.programs) (course_of a.status.work.phase)) (sym (step_at w c s))
-    (left_stored (act_on w c) s.programs (axis_at w s) (u w))
-
--- other programs, among which those of the axes are still stored
-programs_stored : (q : Programs) (s : Machine)
-    → ((w : Which) (c : Course) → course_of (axis_at w s).status.work.phase ≡ Some c → InStore s.programs c.program
-    → InStore q c.program)
-    → EachStored s → EachStored (with_programs q s)
-programs_stored q s h u w =
-    subst (λ (a : AxisState). Such (InStore q) (course_of a.status.work.phase)) (sym (store_alone w q s))
-    (such_still s.programs q (course_of (axis_at w s).status.work.phase) (h w) (u w))
-
-same_stored : (q : Programs) (s : Machine) → q.stored ≡ s.programs.stored → EachStored s → EachStored (with_programs q s)
-same_stored q s e u =
-    programs_stored q s (λ w c o i. subst (λ (ps : List Program). is_some (found c.program ps) ≡ true) (sym e) i) u
 
 -- a program of another number than the one that is deleted
 other_number : (n : ℕ) (o : Option Course) (c : Course) → is_of n o ≡ false → o ≡ Some c → c.program ≢ n
@@ -92,29 +104,102 @@ no_axis first n s e = grind arith
 no_axis second n s e = grind arith
 no_axis third n s e = grind arith
 
-deletion_stored : (b c : Bool) (n : ℕ) (s : Machine) → in_use n s ≡ c → EachStored s
-    → EachStored (cond b (cond c s (with_programs (deleted n s.programs) s)) s)
-deletion_stored true true n s e u = u
-deletion_stored true false n s e u =
-    programs_stored (deleted n s.programs) s
+deletion_fine : (b c : Bool) (n : ℕ) (s : Machine) → in_use n s ≡ c → EachFine s
+    → EachFine (cond b (cond c s (with_programs (deleted n s.programs) s)) s)
+deletion_fine true true n s e u = u
+deletion_fine true false n s e u =
+    programs_fine (deleted n s.programs) s
     (λ w c o i.
-    let d = other_number n (course_of (axis_at w s).status.work.phase) c (no_axis w n s e) o in
-    ap is_some (changes.deleting_keeps n c.program s.programs d) ∙ i)
+    changes.deleting_keeps n c.program s.programs
+    (other_number n (course_of (axis_at w s).status.work.phase) c (no_axis w n s e) o))
     u
-deletion_stored false c n s e u = u
+deletion_fine false c n s e u = u
 
-step_stored : (c : Call) (s : Machine) → EachStored s → EachStored (step c s)
-step_stored (OnAxis axis act) s u = λ w. axis_stored w (OnAxis axis act) s u
-step_stored (Open n m) s u = same_stored (opened n m s.programs) s (changes.opening_keeps n m s.programs) u
-step_stored (Add n line) s u = same_stored (added n line.now s.programs) s (changes.adding_keeps n line.now s.programs) u
-step_stored (Close n) s u =
-    programs_stored (closed n s.programs) s (λ w c o. closed_still s.programs.entry n c.program s.programs) u
-step_stored (Abandon n) s u = same_stored (abandoned n s.programs) s (changes.abandoning_keeps n s.programs) u
-step_stored (DeleteProgram n) s u = deletion_stored (is_some (found n s.programs.stored)) (in_use n s) n s refl u
+-- THE PROGRAMS OF A RUN are those of a store after calls, and go on after every block that does not end them
 
-after_stored : (cs : List Call) (s : Machine) → EachStored s → EachStored (after s cs)
-after_stored [] s u = u
-after_stored (c ∷ cs) s u = after_stored cs (step c s) (step_stored c s u)
+some_first : (front : List Block) (last : Block) → is_some (block_at (front ++ last ∷ []) 0) ≡ true
+some_first [] last = refl
+some_first (b ∷ front) last = grind arith
+
+-- the blocks after the first
+tail_at : (b : Block) (bs : List Block) (k : ℕ) → block_at (b ∷ bs) (suc k) ≡ block_at bs k
+tail_at b bs k = grind arith
+
+none_at : (k : ℕ) → block_at [] k ≡ None
+none_at k = grind arith
+
+-- a block that does not end the program is not the last
+not_last : (front : List Block) (last : Block) (k : ℕ) (b : Block) → ends last ≡ true → block_at (front ++ last ∷ []) k ≡ Some b
+    → ends b ≡ false → is_some (block_at (front ++ last ∷ []) (suc k)) ≡ true
+not_last [] last zero b l e h = absurd (false≢true (sym h ∙ ap ends (sym (same_Some last b e)) ∙ l))
+not_last [] last (suc k) b l e h =
+    let none = none_at k in
+    let tail = tail_at last [] k in
+    cc
+not_last (x ∷ front) last zero b l e h = ap is_some (tail_at x (front ++ last ∷ []) 0) ∙ some_first front last
+not_last (x ∷ front) last (suc k) b l e h =
+    ap is_some (tail_at x (front ++ last ∷ []) (suc k))
+    ∙ not_last front last k b l (sym (tail_at x (front ++ last ∷ []) k) ∙ e) h
+
+once_goes_on : (bs : List Block) → EndsOnce bs → GoesOn bs
+once_goes_on bs o =
+    let last = o.1 in
+    subst GoesOn (sym o.2) (some_first o.0 last, λ k b e h. rw add-one (not_last o.0 last k b o.3 e h))
+
+-- the programs are those of a new store after these calls
+abbrev InRun : Machine → Type 0
+InRun s = (cs : List StoreCall) × (s.programs ≡ stored.after cs)
+
+all_go_on : (s : Machine) → InRun s → AllGoOn s.programs
+all_go_on s r n q e =
+    once_goes_on q.blocks ((runs r.0).ends_once n q (sym (ap (λ (p : Programs). found n p.stored) r.1) ∙ e))
+
+one_call : (c : StoreCall) (s : Machine) (q : Programs) → q ≡ stored.step c s.programs → InRun s → InRun (with_programs q s)
+one_call c s q e r = (
+  r.0 ++ c ∷ [],
+  e ∙ ap (stored.step c) r.1 ∙ sym (run_append r.0 (c ∷ []) empty),
+)
+
+deletion_in_run : (b c : Bool) (n : ℕ) (s : Machine) → InRun s
+    → InRun (cond b (cond c s (with_programs (deleted n s.programs) s)) s)
+deletion_in_run true true n s r = r
+deletion_in_run true false n s r = one_call (deleting n) s (deleted n s.programs) refl r
+deletion_in_run false c n s r = r
+
+step_in_run : (c : Call) (s : Machine) → InRun s → InRun (step c s)
+step_in_run (OnAxis axis act) s r = r
+step_in_run (Open n m) s r = one_call (opening n m) s (opened n m s.programs) refl r
+step_in_run (Add n line) s r = one_call (adding n line.now) s (added n line.now s.programs) refl r
+step_in_run (Close n) s r = one_call (closing n) s (closed n s.programs) refl r
+step_in_run (Abandon n) s r = one_call (abandoning n) s (abandoned n s.programs) refl r
+step_in_run (DeleteProgram n) s r = deletion_in_run (is_some (found n s.programs.stored)) (in_use n s) n s r
+
+-- THE STEP
+
+-- an act of an axis, if there is one
+left_fine : (o : Option one.Act) (p : Programs) (a : AxisState) → AllGoOn p → Fine p a.status.work.phase
+    → Fine p (left_by o p a).status.work.phase
+left_fine None p a g u = u
+left_fine (Some act) p a g u = (act_stored act p a u.0, act_next p g act a u.1)
+
+axis_fine : (w : Which) (c : Call) (s : Machine) → InRun s → EachFine s
+    → Fine s.programs (axis_at w (step c s)).status.work.phase
+axis_fine w c s r u =
+    subst (λ (a : AxisState). Fine s.programs a.status.work.phase) (sym (step_at w c s))
+    (left_fine (act_on w c) s.programs (axis_at w s) (all_go_on s r) (u w))
+
+step_fine : (c : Call) (s : Machine) → InRun s → EachFine s → EachFine (step c s)
+step_fine (OnAxis axis act) s r u = λ w. axis_fine w (OnAxis axis act) s r u
+step_fine (Open n m) s r u = same_fine (opened n m s.programs) s (changes.opening_keeps n m s.programs) u
+step_fine (Add n line) s r u = same_fine (added n line.now s.programs) s (changes.adding_keeps n line.now s.programs) u
+step_fine (Close n) s r u =
+    programs_fine (closed n s.programs) s (λ w c o. closed_still s.programs.entry n c.program s.programs) u
+step_fine (Abandon n) s r u = same_fine (abandoned n s.programs) s (changes.abandoning_keeps n s.programs) u
+step_fine (DeleteProgram n) s r u = deletion_fine (is_some (found n s.programs.stored)) (in_use n s) n s refl u
+
+after_fine : (cs : List Call) (s : Machine) → InRun s → EachFine s → EachFine (after s cs)
+after_fine [] s r u = u
+after_fine (c ∷ cs) s r u = after_fine cs (step c s) (step_in_run c s r) (step_fine c s r u)
 
 -- THE REPLY
 
@@ -151,20 +236,20 @@ deletion_other true true n = λ e. omega (arith, e)
 deletion_other true false n = tt
 deletion_other false c n = λ e. omega (arith, e)
 
-reply_other : (c : Call) (s : Machine) → EachStored s → OtherThan 17 (reply c s)
+reply_other : (c : Call) (s : Machine) → EachFine s → OtherThan 17 (reply c s)
 reply_other (OnAxis axis act) s u =
-    named_other (eqb axis 1) _ _ (axis_other act 1 s.programs s.first (u first))
-    (named_other (eqb axis 2) _ _ (axis_other act 2 s.programs s.second (u second))
-    (named_other (eqb axis 3) _ _ (axis_other act 3 s.programs s.third (u third)) (λ e. omega (arith, e))))
+    named_other (eqb axis 1) _ _ (axis_other act 1 s.programs s.first (u first).0)
+    (named_other (eqb axis 2) _ _ (axis_other act 2 s.programs s.second (u second).0)
+    (named_other (eqb axis 3) _ _ (axis_other act 3 s.programs s.third (u third).0) (λ e. omega (arith, e))))
 reply_other (Open n m) s u = at_store_other _
 reply_other (Add n line) s u = at_store_other _
 reply_other (Close n) s u = at_store_other _
 reply_other (Abandon n) s u = at_store_other _
 reply_other (DeleteProgram n) s u = deletion_other (is_some (found n s.programs.stored)) (in_use n s) n
 
-replies_other : (cs : List Call) (s : Machine) → EachStored s → AllByRecursion (OtherThan 17) (replies s cs)
-replies_other [] s u = tt
-replies_other (c ∷ cs) s u = (reply_other c s u, replies_other cs (step c s) (step_stored c s u))
+replies_other : (cs : List Call) (s : Machine) → InRun s → EachFine s → AllByRecursion (OtherThan 17) (replies s cs)
+replies_other [] s r u = tt
+replies_other (c ∷ cs) s r u = (reply_other c s u, replies_other cs (step c s) (step_in_run c s r) (step_fine c s r u))
 
 -- THE RUN
 
@@ -177,19 +262,28 @@ one_of true c d f g h e = f refl
 one_of false true d f g h e = g refl
 one_of false false d f g h e = h e
 
-in_use_stored : (s : Machine) → EachStored s → InUseStored s
+in_use_stored : (s : Machine) → EachFine s → InUseStored s
 in_use_stored s u n e =
-    one_of (uses_in n s.first) (uses_in n s.second) (uses_in n s.third) (of_axis n _ s.programs (u first))
-    (of_axis n _ s.programs (u second)) (of_axis n _ s.programs (u third)) e
+    one_of (uses_in n s.first) (uses_in n s.second) (uses_in n s.third) (of_axis n _ s.programs (u first).0)
+    (of_axis n _ s.programs (u second).0) (of_axis n _ s.programs (u third).0) e
+
+-- a program that runs is between blocks before it takes one
+running_next : (s : Machine) → EachFine s → RunningHasNext s
+running_next s u w c e = subst (NextIn s.programs) e (u w).1
 
 -- a new module uses no program
-new_stored : (x y z : Meaning) → EachStored (new_machine x y z)
-new_stored x y z first = tt
-new_stored x y z second = tt
-new_stored x y z third = tt
+new_fine : (x y z : Meaning) → EachFine (new_machine x y z)
+new_fine x y z first = (tt, tt)
+new_fine x y z second = (tt, tt)
+new_fine x y z third = (tt, tt)
 
 pub programs_in_use : (x y z : Meaning) (calls : List Call) → ProgramsInUse x y z calls
-programs_in_use x y z calls = record {
-  stored = in_use_stored (after (new_machine x y z) calls) (after_stored calls (new_machine x y z) (new_stored x y z));
-  never_17 = replies_other calls (new_machine x y z) (new_stored x y z);
-}
+programs_in_use x y z calls =
+    let s = new_machine x y z in
+    let r : InRun s = ([], refl) in
+    let u = after_fine calls s r (new_fine x y z) in
+    record {
+      stored = in_use_stored (after s calls) u;
+      next = running_next (after s calls) u;
+      never_17 = replies_other calls s r (new_fine x y z);
+    }

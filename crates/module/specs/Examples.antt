@@ -5,7 +5,6 @@ use Rattle.drives.specs.Stage.{stage_at}
 use Rattle.drives.specs.Laws.{PlayOfThree}
 use Rattle.motion.specs.declared.raw.RawData.{RawData}
 use Rattle.motion.specs.Examples.{Examples, axis_a}
-use Rattle.states.specs.declared.order.Order.{Order}
 use Rattle.states.specs.declared.order.Command.TheVariants.{Start}
 use Rattle.states.specs.Moves.{distance_to}
 use Rattle.laws.specs.Shows.{Feedback}
@@ -14,7 +13,7 @@ use Rattle.module.specs.declared.call.Act.TheVariants.{Enter, Order as Ordering,
 use Rattle.module.specs.declared.call.Call.{Call}
 use Rattle.module.specs.declared.call.Call.TheVariants.{OnAxis}
 use Rattle.module.specs.State.{Machine}
-use Rattle.module.specs.Machine.{Reply, done, new_machine, step, after, replies}
+use Rattle.module.specs.Machine.{done, new_machine, after, replies}
 
 -- MOVES ONE AFTER ANOTHER: the pulses D of each, with the count carried on
 

@@ -39,7 +39,7 @@ length_without n [] = omega arith
 length_without n (p ∷ ps) = let more : length (without n ps) ≤ length ps = length_without n ps in grind arith
 
 -- runs one call longer
-run_append : (cs ds : List Call) (s : Programs) → run (cs ++ ds) s ≡ run ds (run cs s)
+pub run_append : (cs ds : List Call) (s : Programs) → run (cs ++ ds) s ≡ run ds (run cs s)
 run_append [] ds s = refl
 run_append (c ∷ cs) ds s = run_append cs ds (step c s)
 

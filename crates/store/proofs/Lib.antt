@@ -1,3 +1,3 @@
 mod Tables
-mod Histories
+pub mod Histories
 pub mod Laws
