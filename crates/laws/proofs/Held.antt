@@ -1,5 +1,6 @@
 -- A program that runs or is held stays stored, and then no act is answered that the held program is not stored.
-use Rattle.std.proofs.Common.{◌≡◌, ◌≢◌, ℕ, Bool, true, false, cond, [], ◌∷◌, is_some, Some, None, Ok, Err, Option, Result, ℤ, refl, ap, ◌∙◌, arith}
+use Rattle.std.proofs.Common.{◌≡◌, ◌≢◌, ℕ, Bool, true, false, cond, [], ◌∷◌, is_some, Some, None, Ok, Err, Option, Result, ℤ, refl, sym, ap, ◌∙◌, arith}
+use Rattle.std.proofs.lemmas.Bool.{false≢true}
 use Rattle.drives.specs.Meaning.{Meaning}
 use Rattle.reader.specs.declared.block.Block.{Block}
 use Rattle.motion.specs.declared.raw.RawData.{RawData}
@@ -24,25 +25,30 @@ use Rattle.orders.specs.Orders.{answered}
 use Rattle.ticks.specs.Blocks.{with_words, block_verdict, begun_reply, block_reply, next_reply, next_block}
 use Rattle.ticks.specs.Ticks.{trouble_of, trouble_reply, reply_at}
 use Rattle.laws.specs.Acts.{Act, entering, deleting, ordering, levelling, ticking, act_step, act_reply}
-use Rattle.laws.proofs.InUse.{Such, no_program, act_using}
+use Rattle.laws.proofs.Asked.{Yes}
+use Rattle.laws.proofs.InUse.{Such, act_such}
 
--- a program of this number is stored
-abbrev pub InStore : Programs → ℕ → Type 0
-InStore p n = is_some (found n p.stored) ≡ true
-
--- with or without a reference
-abbrev pub AnyStored : Programs → Bool → ℕ → Type 0
-AnyStored p r n = InStore p n
+-- a program is stored
+abbrev pub InStore : Programs → Course → Type 0
+InStore p c = is_some (found c.program p.stored) ≡ true
 
 -- a stored program has a measure, and what has one is stored
 pub has_one : (o : Option Program) → is_some (measure_in o) ≡ is_some o
 has_one None = refl
 has_one (Some p) = refl
 
--- an act keeps the program that is in use stored: one that begins is
+-- a program that begins is stored
+pub begins_stored : (o : Order) (p : Programs) (d : RawData) → Yes (start_questions d o p) → is_some (found o.byte p.stored) ≡ true
+begins_stored o p d y = sym (has_one (found o.byte p.stored)) ∙ y.0
+
+-- with or without a reference
+abbrev AnyStored : Programs → Bool → Course → Type 0
+AnyStored p r c = InStore p c
+
+-- an act keeps the program that is in use stored
 pub act_stored : (act : Act) (p : Programs) (a : AxisState) → Such (InStore p) (course_of a.status.work.phase)
     → Such (InStore p) (course_of (act_step act p a).status.work.phase)
-act_stored act p a u = act_using (AnyStored p) act p a (λ o d r y. grind (arith, y.0, has_one (found o.byte p.stored))) u
+act_stored act p a u = act_such (AnyStored p) act p a (λ o d r y. begins_stored o p d y) (λ c b e i. i) u
 
 -- THE REPLY
 
@@ -54,7 +60,7 @@ Never c (q ∷ qs) = (q.1 ≡ c → q.0 ≡ true) × Never c qs
 never_by : {A : Type 0} (b : Bool) (k c : Cause) (rest : Result A Cause) → (k ≡ c → b ≡ true) → rest ≢ Err c
     → cond b rest (Err k) ≢ Err c
 never_by true k c rest h n e = n e
-never_by false k c rest h n e = no_program (h (cc))
+never_by false k c rest h n e = absurd (false≢true (h (cc)))
 
 never : {A : Type 0} (qs : Questions) (c : Cause) (a : A) → Never c qs → qs asks Ok a ≢ Err c
 never [] c a h e = cc

@@ -44,17 +44,18 @@ EachFine s = (w : Which) → Fine s.programs (axis_at w s).status.work.phase
 
 -- OTHER PROGRAMS, among which the one that is in use is the same
 abbrev SameFor : Option Course → Programs → Programs → Type 0
-SameFor o p q = (c : Course) → o ≡ Some c → InStore p c.program → found c.program q.stored ≡ found c.program p.stored
+SameFor o p q = (c : Course) → o ≡ Some c → InStore p c → found c.program q.stored ≡ found c.program p.stored
 
 such_still : (p q : Programs) (o : Option Course) → SameFor o p q → Such (InStore p) o → Such (InStore q) o
 such_still p q None h u = tt
 such_still p q (Some c) h u = ap is_some (h c refl u) ∙ u
 
 -- the block that comes is the same
-block_still : (p q : Programs) (c : Course) → SameFor (Some c) p q → InStore p c.program → HasNext p c → HasNext q c
+block_still : (p q : Programs) (c : Course) → SameFor (Some c) p q → InStore p c → HasNext p c → HasNext q c
 block_still p q c h u n = ap (λ (o : Option Program). is_some (block_in o c.taken)) (h c refl u) ∙ n
 
-its_still : (p q : Programs) (o : Option Course) → SameFor o p q → Such (InStore p) o → NextUnlessEnded p o → NextUnlessEnded q o
+its_still : (p q : Programs) (o : Option Course) → SameFor o p q → Such (InStore p) o → Such (NextUnlessEnded p) o
+    → Such (NextUnlessEnded q) o
 its_still p q None h u n = tt
 its_still p q (Some c) h u n = λ e. block_still p q c h u (n e)
 
@@ -83,13 +84,14 @@ found_still k p [] e = cc
 found_still k p (q ∷ ps) e =
     let more : is_some (found k ps) ≡ true → found k (ps ++ p ∷ []) ≡ found k ps = found_still k p ps in grind arith
 
-kept_still : (b c : Bool) (k : ℕ) (p : Program) (s : Programs) → InStore s k
+kept_still : (b c : Bool) (k : ℕ) (p : Program) (s : Programs) → is_some (found k s.stored) ≡ true
     → found k (cond b (record { stored = cond c (s.stored ++ p ∷ []) s.stored; entry = None }) s).stored ≡ found k s.stored
 kept_still true true k p s e = found_still k p s.stored e
 kept_still true false k p s e = refl
 kept_still false c k p s e = refl
 
-closed_still : (o : Option Program) (n k : ℕ) (s : Programs) → InStore s k → found k (closed_from o n s).stored ≡ found k s.stored
+closed_still : (o : Option Program) (n k : ℕ) (s : Programs) → is_some (found k s.stored) ≡ true
+    → found k (closed_from o n s).stored ≡ found k s.stored
 closed_still None n k s e = refl
 closed_still (Some p) n k s e = kept_still (eqb p.number n) (closable p.blocks) k p s e
 
@@ -180,7 +182,7 @@ step_in_run (DeleteProgram n) s r = deletion_in_run (is_some (found n s.programs
 left_fine : (o : Option one.Act) (p : Programs) (a : AxisState) → AllGoOn p → Fine p a.status.work.phase
     → Fine p (left_by o p a).status.work.phase
 left_fine None p a g u = u
-left_fine (Some act) p a g u = (act_stored act p a u.0, act_next p g act a u.1)
+left_fine (Some act) p a g u = (act_stored act p a u.0, act_next act p a g u.1)
 
 axis_fine : (w : Which) (c : Call) (s : Machine) → InRun s → EachFine s
     → Fine s.programs (axis_at w (step c s)).status.work.phase
@@ -253,9 +255,10 @@ replies_other (c ∷ cs) s r u = (reply_other c s u, replies_other cs (step c s)
 
 -- THE RUN
 
-of_axis : (n : ℕ) (o : Option Course) (p : Programs) → Such (InStore p) o → is_of n o ≡ true → InStore p n
+of_axis : (n : ℕ) (o : Option Course) (p : Programs) → Such (InStore p) o → is_of n o ≡ true
+    → is_some (found n p.stored) ≡ true
 of_axis n None p u e = cc
-of_axis n (Some c) p u e = subst (InStore p) (eqb-true c.program n e) u
+of_axis n (Some c) p u e = subst (λ (k : ℕ). is_some (found k p.stored) ≡ true) (eqb-true c.program n e) u
 
 one_of : {A : Type 0} (b c d : Bool) → (b ≡ true → A) → (c ≡ true → A) → (d ≡ true → A) → (b || (c || d)) ≡ true → A
 one_of true c d f g h e = f refl
