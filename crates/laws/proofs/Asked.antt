@@ -1,6 +1,6 @@
 -- Lists of questions: what an accepted list says.
 use Rattle.std.proofs.Common.{◌≡◌, true, [], ◌∷◌, Ok, arith}
-use Rattle.states.specs.Moves.{Questions, ◌asks◌}
+use Rattle.states.specs.Asking.{Questions, ◌asks◌}
 
 -- every question is answered yes
 abbrev pub Yes : Questions → Type 0

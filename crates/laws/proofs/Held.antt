@@ -15,7 +15,7 @@ use Rattle.states.specs.declared.fault.AxisFault.{AxisFault}
 use Rattle.states.specs.declared.mode.Mode.{Mode}
 use Rattle.states.specs.declared.mode.Mode.TheVariants.{Jog, AxisOff, Reference, Position, Relative, Program as Running, OffsetTo, OffsetBy, ClearOffset, ToolTo, ClearTool, ClearFault}
 use Rattle.states.specs.Mode.{mode_of}
-use Rattle.states.specs.Moves.{Questions, ◌asks◌, move_questions}
+use Rattle.states.specs.Asking.{Questions, ◌asks◌, move_questions}
 use Rattle.states.specs.Entry.{data_cause, data_refusal, some_data, enter_no, delete_no, call_reply}
 use Rattle.states.specs.State.{Course, Travel, Phase, standing, moving, braking, held, between, Work, Status, AxisState, stands, course_of}
 use Rattle.orders.specs.declared.plan.Plan.{Plan}

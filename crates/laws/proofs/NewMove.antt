@@ -8,7 +8,8 @@ use Rattle.motion.specs.Places.{pulses_by}
 use Rattle.motion.proofs.Runs.{stays-safe}
 use Rattle.states.specs.declared.aim.Aim.{Aim}
 use Rattle.states.specs.State.{Course, Work}
-use Rattle.states.specs.Moves.{begun_in, aim_for, move_verdict, move_questions}
+use Rattle.states.specs.Asking.{aim_for, move_verdict, move_questions}
+use Rattle.states.specs.Moves.{begun_in}
 use Rattle.states.specs.Effects.{travel_to}
 use Rattle.laws.proofs.Asked.{Yes, accepted}
 use Rattle.laws.specs.Kept.{Attainable, along, OnWay, KeptWith}

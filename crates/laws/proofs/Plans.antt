@@ -9,7 +9,7 @@ use Rattle.motion.specs.Places.{pulses_by}
 use Rattle.motion.specs.Laws.{Near}
 use Rattle.motion.proofs.Drift.{arrives}
 use Rattle.states.specs.State.{Phase, standing, moving, braking, held, between, Work, with_phase, course_of}
-use Rattle.states.specs.Moves.{aim_for}
+use Rattle.states.specs.Asking.{aim_for}
 use Rattle.states.specs.Courses.{opening}
 use Rattle.states.specs.Effects.{set_off}
 use Rattle.orders.specs.Effects.{taken, taken_over, zeroed, with_offset, with_tool, gone_on}

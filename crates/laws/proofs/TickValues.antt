@@ -12,7 +12,8 @@ use Rattle.states.specs.declared.fault.Cause.TheVariants.{NoMachineData, SwitchA
 use Rattle.states.specs.declared.fault.AxisFault.{AxisFault}
 use Rattle.states.specs.Faults.{cause_number}
 use Rattle.states.specs.State.{Course, Travel, Phase, standing, moving, braking, held, between, Work, AxisState}
-use Rattle.states.specs.Moves.{Questions, ◌asks◌, aim_for, move_questions, ticked_in, braked_in}
+use Rattle.states.specs.Asking.{Questions, ◌asks◌, aim_for, move_questions}
+use Rattle.states.specs.Moves.{ticked_in, braked_in}
 use Rattle.states.specs.Courses.{course_rate}
 use Rattle.states.specs.Effects.{fault_in}
 use Rattle.ticks.specs.Blocks.{with_words, block_target, block_verdict, begun_with, begun_reply, block_run, block_reply, next_run, next_reply, next_block}

@@ -6,7 +6,7 @@ use Rattle.drives.specs.Laws.{PlayOfThree}
 use Rattle.motion.specs.declared.raw.RawData.{RawData}
 use Rattle.motion.specs.Examples.{Examples, axis_a}
 use Rattle.states.specs.declared.order.Command.TheVariants.{Start}
-use Rattle.states.specs.Moves.{distance_to}
+use Rattle.states.specs.Asking.{distance_to}
 use Rattle.laws.specs.Shows.{Feedback}
 use Rattle.module.specs.declared.call.Act.{Act}
 use Rattle.module.specs.declared.call.Act.TheVariants.{Enter, Order as Ordering, Level, Tick}

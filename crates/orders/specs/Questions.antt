@@ -11,7 +11,7 @@ use Rattle.states.specs.declared.order.Order.{Order}
 use Rattle.states.specs.declared.fault.Cause.{Cause}
 use Rattle.states.specs.declared.fault.Cause.TheVariants.{NoMachineData, UnknownMode, NotAdmitted, StillBraking, NotStanding, NotReferenced, ValueOutside, NotStored, OtherMeasure, NothingHeld, HeldNotStored, ShiftOutside, OfDrive}
 use Rattle.states.specs.State.{Course, Phase, standing, moving, braking, held, between, Work, Status, stands, brakes}
-use Rattle.states.specs.Moves.{Questions, ◌asks◌, lowest_of, highest_of, move_questions, aim_for}
+use Rattle.states.specs.Asking.{Questions, ◌asks◌, lowest_of, highest_of, move_questions, aim_for}
 use Rattle.states.specs.Courses.{course_rate}
 use Rattle.states.specs.Shift.{own_shift}
 use Rattle.orders.specs.declared.plan.Plan.{Plan}

@@ -1,7 +1,7 @@
 ghost use Rattle.std.specs.Prelude.{◌≡◌, cond, ◌+ℤ◌, ◌-ℤ◌, Some, Ok, Err};
 ghost use Rattle.motion.specs.Places.{rate_by};
 ghost use Rattle.motion.specs.Travel.{Going};
-ghost use Rattle.states.specs.Moves.{◌asks◌, move_questions, aim_for};
+ghost use Rattle.states.specs.Asking.{◌asks◌, move_questions, aim_for};
 ghost use Rattle.states.specs.View.{status_of, work_of, phase_of};
 ghost use Rattle.states.specs.declared.fault.Cause.TheVariants.{NoMachineData};
 ghost use Rattle.orders.specs.Modes.{bare, goes_forward};

@@ -2,6 +2,7 @@ pub mod Mode
 pub mod Faults
 pub mod State
 pub mod View
+pub mod Asking
 pub mod Moves
 pub mod Movers
 pub mod Shift

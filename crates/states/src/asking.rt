@@ -1,7 +1,7 @@
 ghost use Rattle.std.specs.Prelude.{◌≡◌, ◌&&◌, cond, Some, None, ◌+ℤ◌, int_le, nat_le, IfSome, option_map};
 ghost use Rattle.motion.specs.Places.{pulses_by};
 ghost use Rattle.states.specs.View.{raw_in};
-ghost use Rattle.states.specs.Moves.{lowest_of, highest_of, distance_to, aim_for, way_verdict, move_verdict};
+ghost use Rattle.states.specs.Asking.{lowest_of, highest_of, distance_to, aim_for, way_verdict, move_verdict};
 
 use crate::aim::{Aim, Wish};
 use crate::fault::Cause;

@@ -1,5 +1,5 @@
 ghost use Rattle.std.specs.Prelude.{◌≡◌, ◌&&◌, int_le};
-ghost use Rattle.states.specs.Moves.{ready_verdict};
+ghost use Rattle.states.specs.Asking.{ready_verdict};
 
 use drives::drive::Drive;
 use drives::fault::DriveFault;

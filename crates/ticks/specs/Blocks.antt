@@ -13,7 +13,7 @@ use Rattle.states.specs.declared.fault.Cause.{Cause}
 use Rattle.states.specs.declared.fault.Cause.TheVariants.{NoMachineData}
 use Rattle.states.specs.declared.fault.AxisFault.{AxisFault}
 use Rattle.states.specs.State.{Course, Phase, standing, held, between, Work, Status, with_work, with_fault, with_phase}
-use Rattle.states.specs.Moves.{move_verdict}
+use Rattle.states.specs.Asking.{move_verdict}
 use Rattle.states.specs.Courses.{course_rate}
 use Rattle.states.specs.Shift.{own_shift, offset_by}
 use Rattle.states.specs.Effects.{set_off, fault_in}

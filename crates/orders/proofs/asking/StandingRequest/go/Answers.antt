@@ -1,6 +1,6 @@
 use Rattle.std.proofs.Common.{◌≡◌, [], ◌∷◌, Ok, Err, sym, ◌∙◌, arith, rules}
 use Rattle.states.specs.declared.fault.Cause.{Cause}
-use Rattle.states.specs.Moves.{Questions, ◌asks◌, move_questions}
+use Rattle.states.specs.Asking.{Questions, ◌asks◌, move_questions}
 use Rattle.orders.proofs.asking.StandingRequest.go.Goals as goal
 
 -- a refused list of questions is refused whatever is answered at its end
