@@ -1,79 +1,118 @@
-// Pulses sent to stages and layers, with the counts that the rules give them.
+// Pulses sent to stages and layers, with the answers and counts that the rules give them.
 #![tactic(auto)]
 
 #[cfg(test)]
 mod tests {
+    use Direction::{Backward, Forward};
+    use Step::{Level, Pulse, Send};
     use drives::clock_stage::{ClockStage, FARTHEST};
     use drives::direction::Direction;
     use drives::drive::Drive;
-    use drives::fault::{DriveFault, Refusal};
+    use drives::fault::Refusal;
     use drives::send::send;
     use drives::take_up::{Counts, TakeUp};
+    use std::process::Abort;
     use std::test::Fail;
 
-    fn stage(count: i64) -> Result<ClockStage, DriveFault> {
-        let mut stage = ClockStage::new(count)?;
-        stage.level(true);
-        Ok(stage)
+    #[derive(Clone, Copy)]
+    enum Step {
+        Level(bool),
+        Pulse(Direction),
+        Send(Direction, u64),
     }
 
-    // (direction, count of the layer, count below), one row a pulse
-    const PLAY_OF_THREE: [(Direction, i64, i64); 4] = [
-        (Direction::Forward, 1, 1),
-        (Direction::Forward, 2, 2),
-        (Direction::Backward, 1, -2),
-        (Direction::Forward, 2, 2),
+    // A step, its answer, and then the counts of the layer and of the drive below.
+    type Row = (Step, Result<(), Refusal>, i64, i64);
+
+    fn take<D: Drive>(drive: &mut D, step: Step) -> Result<(), Refusal> {
+        match step {
+            Level(ready) => {
+                drive.level(ready);
+                Ok(())
+            }
+            Pulse(direction) => drive.pulse(direction),
+            Send(direction, pulses) => send(drive, direction, pulses),
+        }
+    }
+
+    fn run<D: Drive>(rt: &impl Abort, screw: &mut TakeUp<D>, rows: &[Row]) {
+        for (row, (step, answer, layer, below)) in rows.iter().enumerate() {
+            let found = (take(screw, *step), screw.counts());
+            let counts = Counts {
+                layer: *layer,
+                below: *below,
+            };
+            assert!(rt; found == (*answer, counts), "row {row}");
+        }
+    }
+
+    // Without play a layer means the stage below.
+    const ENDED: &[Row] = &[
+        (
+            Pulse(Forward),
+            Err(Refusal::NotReady),
+            FARTHEST - 2,
+            FARTHEST - 2,
+        ),
+        (Level(true), Ok(()), FARTHEST - 2, FARTHEST - 2),
+        (Send(Forward, 3), Err(Refusal::Ended), FARTHEST, FARTHEST),
+        (Pulse(Backward), Ok(()), FARTHEST - 1, FARTHEST - 1),
+        (Level(false), Ok(()), FARTHEST - 1, FARTHEST - 1),
+        (
+            Pulse(Backward),
+            Err(Refusal::NotReady),
+            FARTHEST - 1,
+            FARTHEST - 1,
+        ),
+    ];
+
+    const PLAY_OF_THREE: &[Row] = &[
+        (Level(true), Ok(()), 0, 0),
+        (Pulse(Forward), Ok(()), 1, 1),
+        (Pulse(Forward), Ok(()), 2, 2),
+        (Pulse(Backward), Ok(()), 1, -2),
+        (Pulse(Forward), Ok(()), 2, 2),
+    ];
+
+    // A play of 5 over one of 2.
+    const LAYERS: &[Row] = &[
+        (Level(true), Ok(()), 0, 0),
+        (Send(Forward, 3), Ok(()), 3, 3),
+        (Pulse(Backward), Ok(()), 2, -3),
     ];
 
     #[test]
-    fn play_is_taken_up_where_the_flank_turns(rt: HostRuntime) -> Result<(), Fail> {
-        let mut screw = TakeUp::new(stage(0)?, 3)?;
-        for (direction, layer, below) in PLAY_OF_THREE {
-            screw.pulse(direction)?;
-            assert_eq!(rt; screw.counts(), Counts { layer, below });
-        }
-        Ok(())
-    }
-
-    #[test]
-    fn layers_stand_on_layers(rt: HostRuntime) -> Result<(), Fail> {
-        let mut outer = TakeUp::new(TakeUp::new(stage(0)?, 2)?, 5)?;
-        send(&mut outer, Direction::Forward, 3)?;
-        outer.pulse(Direction::Backward)?;
-        assert_eq!(rt; outer.count(), 2);
-        assert_eq!(rt; outer.below().count(), -3);
+    fn pulses(rt: HostRuntime) -> Result<(), Fail> {
+        let mut free = TakeUp::new(ClockStage::new(FARTHEST - 2)?, 0)?;
+        run(&rt, &mut free, ENDED);
+        assert_eq!(rt; free.below().direction(), Backward);
+        let mut screw = TakeUp::new(ClockStage::new(0)?, 3)?;
+        run(&rt, &mut screw, PLAY_OF_THREE);
+        let mut outer = TakeUp::new(TakeUp::new(ClockStage::new(0)?, 2)?, 5)?;
+        run(&rt, &mut outer, LAYERS);
         assert_eq!(rt; outer.below().below().count(), -5);
-        assert_eq!(rt; outer.least(), 7 - FARTHEST);
         Ok(())
     }
 
-    #[test]
-    fn a_drive_ends_and_waits_until_it_is_ready(rt: HostRuntime) -> Result<(), Fail> {
-        assert!(rt; matches!(ClockStage::new(FARTHEST + 1), Err(DriveFault::NotMade)));
-        assert!(rt; matches!(ClockStage::new(i64::MIN), Err(DriveFault::NotMade)));
-        let mut stage = ClockStage::new(FARTHEST - 2)?;
-        assert_eq!(rt; stage.pulse(Direction::Forward), Err(Refusal::NotReady));
-        assert_eq!(rt; stage.count(), FARTHEST - 2);
-        stage.level(true);
-        assert_eq!(rt;
-            send(&mut stage, Direction::Forward, 3),
-            Err(Refusal::Ended)
-        );
-        assert_eq!(rt; stage.count(), FARTHEST);
-        assert_eq!(rt; stage.pulse(Direction::Backward), Ok(()));
-        assert_eq!(rt; stage.direction(), Direction::Backward);
-        Ok(())
+    // The ends of a layer with a play over a stage at a count, if both can be made.
+    fn ends(count: i64, play: u16) -> Option<(i64, i64)> {
+        let screw = TakeUp::new(ClockStage::new(count).ok()?, play).ok()?;
+        Some((screw.least(), screw.greatest()))
     }
 
+    const MADE: [(i64, u16, Option<(i64, i64)>); 6] = [
+        (FARTHEST + 1, 0, None),
+        (i64::MIN, 0, None),
+        (-FARTHEST, 0, Some((-FARTHEST, FARTHEST))),
+        (7 - FARTHEST, 8, None),
+        (8 - FARTHEST, 8, Some((8 - FARTHEST, FARTHEST))),
+        (0, u16::MAX, Some((65_535 - FARTHEST, FARTHEST))),
+    ];
+
     #[test]
-    fn a_layer_is_made_with_room_for_its_play(rt: HostRuntime) -> Result<(), Fail> {
-        assert!(rt; TakeUp::new(stage(7 - FARTHEST)?, 8).is_err());
-        let lowest = TakeUp::new(stage(8 - FARTHEST)?, 8)?;
-        assert_eq!(rt; lowest.count(), lowest.least());
-        let mut free = TakeUp::new(stage(0)?, 0)?;
-        free.pulse(Direction::Backward)?;
-        assert_eq!(rt; free.counts().below, -1);
-        assert_eq!(rt; TakeUp::new(stage(0)?, u16::MAX)?.greatest(), FARTHEST);
-        Ok(())
+    fn room_for_the_play(rt: HostRuntime) {
+        for (count, play, made) in MADE {
+            assert_eq!(rt; ends(count, play), made);
+        }
     }
 }
