@@ -6,10 +6,11 @@ ghost use Rattle.module.specs.Replies.{reply_by, refusal_in};
 ghost use Rattle.rail.specs.Ticks.{counted};
 
 use crate::account::Account;
-use crate::build::{Build, Layers, Position};
+use crate::build::{Layers, Position};
 use crate::fault::Placed;
 use drives::drive::Drive;
 use module::{Answer, Call, Drives, Fault, Module};
+use script::Build;
 use std::alloc::{AllocError, Global};
 use std::fmt;
 
@@ -94,9 +95,9 @@ impl Bench {
     pub fn position(&self, axis: u8) -> Option<Position> {
         let [first, second, third] = self.builds;
         match axis {
-            1 => Some(first.position(self.module.first().drive())),
-            2 => Some(second.position(self.module.second().drive())),
-            3 => Some(third.position(self.module.third().drive())),
+            1 => Some(Position::of(first, self.module.first().drive())),
+            2 => Some(Position::of(second, self.module.second().drive())),
+            3 => Some(Position::of(third, self.module.third().drive())),
             _ => None,
         }
     }

@@ -2,41 +2,32 @@ use drives::clock_stage::ClockStage;
 use drives::drive::Drive;
 use drives::fault::DriveFault;
 use drives::take_up::{Counts, TakeUp};
+use module::Drives;
+use script::Build;
 use std::fmt;
-
-/// How a script says that a drive is built; the outer layer comes first.
-// A case for each number of layers, since each has other counts to show.
-#[derive(Clone, Copy)]
-pub enum Build {
-    Clock { count: i64 },
-    TakeUp { play: u16, count: i64 },
-    TakeUpTwice { outer: u16, inner: u16, count: i64 },
-}
 
 // A layer of no play means what the drive below means, so one type serves every build.
 pub type Layers = TakeUp<TakeUp<ClockStage>>;
 
-impl Build {
-    pub fn drive(self) -> Result<Layers, DriveFault> {
-        match self {
-            Build::Clock { count } => layers(0, 0, count),
-            Build::TakeUp { play, count } => layers(play, 0, count),
-            Build::TakeUpTwice {
-                outer,
-                inner,
-                count,
-            } => layers(outer, inner, count),
-        }
-    }
+/// The drives of the three axes.
+pub fn drives_of(builds: [Build; 3]) -> Result<Drives<Layers, Layers, Layers>, DriveFault> {
+    let [first, second, third] = builds;
+    Ok(Drives {
+        first: drive_of(first)?,
+        second: drive_of(second)?,
+        third: drive_of(third)?,
+    })
+}
 
-    /// The counts of such a drive from the carriage down to the motor.
-    pub fn position(self, drive: &Layers) -> Position {
-        let outer = drive.counts();
-        match self {
-            Build::Clock { .. } => Position::Motor(outer.layer),
-            Build::TakeUp { .. } => Position::Screw(outer),
-            Build::TakeUpTwice { .. } => Position::Screws(outer, drive.below().counts().below),
-        }
+fn drive_of(build: Build) -> Result<Layers, DriveFault> {
+    match build {
+        Build::Clock { count } => layers(0, 0, count),
+        Build::TakeUp { play, count } => layers(play, 0, count),
+        Build::TakeUpTwice {
+            outer,
+            inner,
+            count,
+        } => layers(outer, inner, count),
     }
 }
 
@@ -51,6 +42,18 @@ pub enum Position {
     Motor(i64),
     Screw(Counts),
     Screws(Counts, i64),
+}
+
+impl Position {
+    /// The counts of a drive of this build, from the carriage down to the motor.
+    pub fn of(build: Build, drive: &Layers) -> Position {
+        let outer = drive.counts();
+        match build {
+            Build::Clock { .. } => Position::Motor(outer.layer),
+            Build::TakeUp { .. } => Position::Screw(outer),
+            Build::TakeUpTwice { .. } => Position::Screws(outer, drive.below().counts().below),
+        }
+    }
 }
 
 impl fmt::Display for Position {

@@ -9,20 +9,14 @@ mod bench;
 mod build;
 mod explain;
 mod fault;
-mod mistake;
 mod observed;
-mod plan;
 mod rail;
 mod reading;
 mod replay;
-mod script;
-#[cfg(test)]
-mod tests;
-mod words;
 
 use crate::replay::{Stop, replay};
-use crate::words::split_lines;
 use anyhow::anyhow;
+use script::split_lines;
 use std::env;
 use std::io::Read;
 

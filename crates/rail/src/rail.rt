@@ -1,12 +1,12 @@
 use crate::bench::Bench;
-use crate::build::{Build, Layers};
+use crate::build::Layers;
 use crate::explain::{Explained, done_in_words, in_words};
 use crate::fault::Placed;
 use crate::observed::Observed;
 use crate::reading::Reading;
-use crate::script::Line;
 use drives::drive::Drive;
 use module::{Act, Answer, Call, Drives, run};
+use script::{Build, Line};
 use std::fmt;
 
 // The most calls that are made again: their list is kept in memory.

@@ -1,8 +1,7 @@
-use crate::mistake::Mistake;
-use crate::plan::Plan;
+use crate::build::drives_of;
 use crate::rail::Rail;
-use crate::script::{Line, read_line};
 use drives::fault::DriveFault;
+use script::{Line, Mistake, Plan, read_line};
 use thiserror::Error;
 
 /// Why a script was not run to its end.
@@ -19,7 +18,8 @@ pub enum Stop {
 /// Makes the drives and the module, then each call in turn, and prints its answer.
 pub fn replay(rt: &HostRuntime, lines: &[&[u8]], explain: bool) -> Result<(), Stop> {
     let plan = plan_drives(lines)?;
-    let mut rail = Rail::new(rt, plan.builds(), plan.drives()?, explain)?;
+    let builds = plan.builds();
+    let mut rail = Rail::new(rt, builds, drives_of(builds)?, explain)?;
     let mut calling = false;
     for (i, line) in lines.iter().enumerate() {
         let Some(line) = read(*line, i)? else {
@@ -32,7 +32,7 @@ pub fn replay(rt: &HostRuntime, lines: &[&[u8]], explain: bool) -> Result<(), St
         calling = is_call;
         rail.answer(line)?;
     }
-    Ok(rail.account(plan.drives()?)?)
+    Ok(rail.account(drives_of(builds)?)?)
 }
 
 // The drive lines before the first call.

@@ -1,4 +1,4 @@
-ghost use Rattle.rail.specs.Cuts.{Cut};
+ghost use Rattle.script.specs.Cuts.{Cut};
 
 use crate::mistake::{Field, Mistake};
 use std::alloc::{AllocError, Global};

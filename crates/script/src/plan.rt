@@ -1,7 +1,5 @@
-use crate::build::{Build, Layers};
+use crate::build::Build;
 use crate::mistake::Mistake;
-use drives::fault::DriveFault;
-use module::Drives;
 
 /// The drives that a script asks for; an axis without one has a stage at 0.
 #[derive(Clone, Copy, Default)]
@@ -25,14 +23,5 @@ impl Plan {
     pub fn builds(self) -> [Build; 3] {
         self.builds
             .map(|build| build.unwrap_or(Build::Clock { count: 0 }))
-    }
-
-    pub fn drives(self) -> Result<Drives<Layers, Layers, Layers>, DriveFault> {
-        let [first, second, third] = self.builds();
-        Ok(Drives {
-            first: first.drive()?,
-            second: second.drive()?,
-            third: third.drive()?,
-        })
     }
 }

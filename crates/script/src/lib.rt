@@ -1,0 +1,14 @@
+//! Reading a script of calls: its lines, the drives that it asks for, and what can be wrong with a line.
+#![tactic(auto)]
+
+pub mod build;
+pub mod line;
+pub mod mistake;
+pub mod plan;
+pub mod words;
+
+pub use build::Build;
+pub use line::{Line, read_line};
+pub use mistake::{Field, Mistake};
+pub use plan::Plan;
+pub use words::split_lines;
