@@ -60,13 +60,16 @@ impl fmt::Display for Position {
     fn fmt<W: fmt::Write>(&self, f: &mut fmt::Formatter<W>) -> fmt::Result {
         match *self {
             Position::Motor(count) => write!(f, "motor at {count}"),
-            Position::Screw(Counts { layer, below }) => write!(
-                f,
-                "carriage at {layer}, screw at {below}"
-            ),
-            Position::Screws(Counts { layer, below }, motor) => {
-                write!(f, "carriage at {layer}, screw at {below}, motor at {motor}")
+            Position::Screw(counts) => write_screw(counts, f),
+            Position::Screws(counts, motor) => {
+                write_screw(counts, f)?;
+                write!(f, ", motor at {motor}")
             }
         }
     }
+}
+
+fn write_screw<W: fmt::Write>(counts: Counts, f: &mut fmt::Formatter<W>) -> fmt::Result {
+    let Counts { layer, below } = counts;
+    write!(f, "carriage at {layer}, screw at {below}")
 }

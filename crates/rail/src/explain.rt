@@ -98,11 +98,7 @@ impl fmt::Display for Explained {
         let number = u8::from(self.0.mode);
         let name = name_of(self.0.mode);
         write!(f, "mode {number} ({name})")?;
-        for (bit, words) in FEEDBACK {
-            if self.0.feedback & bit != 0 {
-                write!(f, ", {words}")?;
-            }
-        }
+        write_feedback(self.0.feedback, f)?;
         match self.0.fault {
             None => Ok(()),
             Some(fault) => {
@@ -111,6 +107,15 @@ impl fmt::Display for Explained {
             }
         }
     }
+}
+
+fn write_feedback<W: fmt::Write>(feedback: u8, f: &mut fmt::Formatter<W>) -> fmt::Result {
+    for (bit, words) in FEEDBACK {
+        if feedback & bit != 0 {
+            write!(f, ", {words}")?;
+        }
+    }
+    Ok(())
 }
 
 fn name_of(mode: Mode) -> &'static str {

@@ -7,6 +7,7 @@ use crate::reading::Reading;
 use drives::drive::Drive;
 use module::{Act, Answer, Call, Drives, run};
 use script::{Build, Line};
+use std::alloc::AllocError;
 use std::fmt;
 
 // The most calls that are made again: their list is kept in memory.
@@ -45,8 +46,7 @@ impl<'r, 'a> Rail<'r, 'a> {
             Line::Ticks { axis, count } => self.ticks(axis, count),
             Line::Read { measure, text } => {
                 let reading = Reading::of(text, measure);
-                self.show(&reading)?;
-                self.say(0, &reading.in_words())
+                self.tell(0, &reading, &reading.in_words())
             }
         }
     }
@@ -55,18 +55,13 @@ impl<'r, 'a> Rail<'r, 'a> {
         let axis = axis_of(call);
         self.keep(call, 1)?;
         match self.bench.call(call) {
-            Ok(Answer::Done) => {
-                self.show(&"ok")?;
-                self.say(axis, &done_in_words(call))
-            }
-            Ok(Answer::Shown(observation)) => {
-                self.show(&Observed { axis, observation })?;
-                self.say(axis, &Explained(observation))
-            }
-            Err(fault) => {
-                self.show(&Placed(fault))?;
-                self.say(axis, &in_words(fault))
-            }
+            Ok(Answer::Done) => self.tell(axis, &"ok", &done_in_words(call)),
+            Ok(Answer::Shown(observation)) => self.tell(
+                axis,
+                &Observed { axis, observation },
+                &Explained(observation),
+            ),
+            Err(fault) => self.tell(axis, &Placed(fault), &in_words(fault)),
         }
     }
 
@@ -74,8 +69,8 @@ impl<'r, 'a> Rail<'r, 'a> {
         let ticks = self.bench.ticks(axis, count);
         let act = Act::Tick;
         self.keep(Call::OnAxis { axis, act }, ticks.made)?;
-        self.show(&ticks)?;
-        self.say(axis, &ticks.fault.map_or("every tick is made", in_words))
+        let words = ticks.fault.map_or("every tick is made", in_words);
+        self.tell(axis, &ticks, &words)
     }
 
     // Keeps a call that is made so many times.
@@ -87,17 +82,28 @@ impl<'r, 'a> Rail<'r, 'a> {
         Ok(())
     }
 
+    // Prints a reply, and what it means where that is wanted.
+    fn tell<R: fmt::Display, W: fmt::Display>(
+        &self,
+        axis: u8,
+        reply: &R,
+        words: &W,
+    ) -> anyhow::Result<()> {
+        self.show(reply)?;
+        if self.explain {
+            self.say(axis, words)?;
+        }
+        Ok(())
+    }
+
     fn show<T: fmt::Display>(&self, reply: &T) -> anyhow::Result<()> {
         let [x, y, z] = self.bench.counts();
         println!(self.rt; "{reply} | {x} {y} {z}")?;
         Ok(())
     }
 
-    // What an answer means and where the axis of the call stands after it, where that is wanted.
+    // What an answer means and where the axis of the call stands after it.
     fn say<T: fmt::Display>(&self, axis: u8, words: &T) -> anyhow::Result<()> {
-        if !self.explain {
-            return Ok(());
-        }
         match self.bench.position(axis) {
             Some(position) => println!(self.rt; "  {words}; axis {axis}: {position}")?,
             None => println!(self.rt; "  {words}")?,
@@ -126,22 +132,24 @@ impl<'r, 'a> Rail<'r, 'a> {
             println!(self.rt; "more than {MOST_AGAIN} calls: not made again as one list")?;
             return Ok(());
         }
-        let drives = match run(self.rt.alloc(), drives, &self.calls) {
-            Ok(ran) => ran.drives,
-            Err(not_made) => return Err(not_made.error.into()),
-        };
-        let counts = [
-            drives.first.count(),
-            drives.second.count(),
-            drives.third.count(),
-        ];
-        let verdict = if counts == self.bench.counts() {
+        let verdict = if self.counts_again(drives)? == self.bench.counts() {
             "the same counts"
         } else {
             "other counts"
         };
         println!(self.rt; "{count} calls made again as one list: {verdict}")?;
         Ok(())
+    }
+
+    fn counts_again(&self, drives: Drives<Layers, Layers, Layers>) -> Result<[i64; 3], AllocError> {
+        match run(self.rt.alloc(), drives, &self.calls) {
+            Ok(ran) => Ok([
+                ran.drives.first.count(),
+                ran.drives.second.count(),
+                ran.drives.third.count(),
+            ]),
+            Err(not_made) => Err(not_made.error),
+        }
     }
 }
 

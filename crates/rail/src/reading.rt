@@ -47,25 +47,22 @@ impl fmt::Display for Reading {
 
 // G words come in the order motion, offset, way; a `-` stands for what is absent.
 fn write_block<W: fmt::Write>(block: &Block, f: &mut fmt::Formatter<W>) -> fmt::Result {
-    f.write_str("block n")?;
-    write_or_dash(block.number, f)?;
-    f.write_str(" g")?;
+    write_or_dash("block n", block.number, f)?;
     write_choices(block, f)?;
-    f.write_str(" x")?;
-    write_or_dash(block.target, f)?;
-    f.write_str(" f")?;
-    write_or_dash(block.feed, f)?;
-    f.write_str(" m")?;
+    write_or_dash(" x", block.target, f)?;
+    write_or_dash(" f", block.feed, f)?;
     match block.auxiliary {
-        Some(m) => write!(f, " {m:02}"),
-        None => f.write_str(" -"),
+        Some(m) => write!(f, " m {m:02}"),
+        None => f.write_str(" m -"),
     }
 }
 
 fn write_or_dash<T: fmt::Display + Drop, W: fmt::Write>(
+    letter: &str,
     value: Option<T>,
     f: &mut fmt::Formatter<W>,
 ) -> fmt::Result {
+    f.write_str(letter)?;
     match value {
         Some(value) => write!(f, " {value}"),
         None => f.write_str(" -"),
@@ -78,9 +75,10 @@ fn write_choices<W: fmt::Write>(block: &Block, f: &mut fmt::Formatter<W>) -> fmt
         block.offset.map(u8::from),
         block.way.map(u8::from),
     ];
-    if codes.iter().all(Option::is_none) {
-        return f.write_str(" -");
+    if codes == [None, None, None] {
+        return f.write_str(" g -");
     }
+    f.write_str(" g")?;
     for code in codes.iter().flatten() {
         write!(f, " {code:02}")?;
     }

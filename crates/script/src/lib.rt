@@ -8,7 +8,7 @@ pub mod plan;
 pub mod words;
 
 pub use build::Build;
-pub use line::{Line, read_line};
-pub use mistake::{Field, Mistake};
+pub use line::{Line, read_at, read_line};
+pub use mistake::{Field, Mistake, MistakeAt};
 pub use plan::Plan;
 pub use words::split_lines;

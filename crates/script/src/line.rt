@@ -1,5 +1,5 @@
 use crate::build::Build;
-use crate::mistake::{Field, Mistake};
+use crate::mistake::{Field, Mistake, MistakeAt};
 use crate::words::Words;
 use axis::Levels;
 use module::{Act, Call};
@@ -32,6 +32,11 @@ pub fn read_line<'a>(line: &'a [u8]) -> Result<Option<Line<'a>>, Mistake> {
     };
     words.end()?;
     Ok(Some(read))
+}
+
+/// Reads the line of this index.
+pub fn read_at<'a>(line: &'a [u8], index: usize) -> Result<Option<Line<'a>>, MistakeAt> {
+    read_line(line).map_err(|mistake| mistake.at(index))
 }
 
 fn read_call<'a>(name: &[u8], words: &mut Words<'a>) -> Result<Call<'a>, Mistake> {

@@ -70,3 +70,21 @@ pub enum Mistake {
     #[error("a drive comes before the first call")]
     DriveAfterCall,
 }
+
+impl Mistake {
+    /// The mistake of the line of this index; lines are counted from 1.
+    pub fn at(self, index: usize) -> MistakeAt {
+        MistakeAt {
+            line: index.saturating_add(1),
+            mistake: self,
+        }
+    }
+}
+
+/// A mistake, and which line has it.
+#[derive(Clone, Copy, Debug, Error)]
+#[error("script line {line}: {mistake}")]
+pub struct MistakeAt {
+    line: usize,
+    mistake: Mistake,
+}
