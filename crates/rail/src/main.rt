@@ -29,7 +29,12 @@ fn run(rt: &HostRuntime) -> anyhow::Result<()> {
     let mut text = Vec::new(rt.alloc());
     rt.stdin().read_to_end(&mut text)?;
     let lines = split_lines(rt.alloc(), &text)?;
-    match replay(rt, &lines, explain) {
+    report(rt, replay(rt, &lines, explain))
+}
+
+// Prints why a script was not run to its end.
+fn report(rt: &HostRuntime, replayed: Result<(), Stop>) -> anyhow::Result<()> {
+    match replayed {
         Ok(()) => Ok(()),
         Err(Stop::Output(error)) => Err(error),
         Err(stop) => {
