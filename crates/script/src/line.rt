@@ -112,28 +112,26 @@ fn read_layer(words: &mut Words) -> Result<Option<u16>, Mistake> {
     }
 }
 
-// The keys of machine data in their order, the measure before them.
-const RATES: [&str; 7] = ["fm", "fs", "a", "duration", "patterns", "W", "P"];
-
-const PLACES: [&str; 7] = ["low", "high", "reference", "o1", "o2", "o3", "o4"];
-
+// The data are read in the order of their keys on the line.
 fn read_data(words: &mut Words) -> Result<Act, Mistake> {
-    let measure = measure_in(words.datum("measure")?)?;
-    let [fm, fs, increase, duration, patterns, units, pulses] = words.data(RATES)?;
-    let [low, high, reference, o1, o2, o3, o4] = words.data(PLACES)?;
     Ok(Act::Enter(RawData {
-        fm,
-        fs,
-        increase,
-        duration,
-        patterns,
-        units,
-        pulses,
-        low,
-        high,
-        reference,
-        offsets: [o1, o2, o3, o4],
-        measure,
+        measure: measure_in(words.value("measure")?)?,
+        fm: words.datum("fm")?,
+        fs: words.datum("fs")?,
+        increase: words.datum("a")?,
+        duration: words.datum("duration")?,
+        patterns: words.datum("patterns")?,
+        units: words.datum("W")?,
+        pulses: words.datum("P")?,
+        low: words.datum("low")?,
+        high: words.datum("high")?,
+        reference: words.datum("reference")?,
+        offsets: [
+            words.datum("o1")?,
+            words.datum("o2")?,
+            words.datum("o3")?,
+            words.datum("o4")?,
+        ],
     }))
 }
 

@@ -53,7 +53,7 @@ impl<'a> Words<'a> {
     }
 
     /// The value of a machine datum, whose key comes here.
-    pub fn datum(&mut self, key: &'static str) -> Result<&'a [u8], Mistake> {
+    pub fn value(&mut self, key: &'static str) -> Result<&'a [u8], Mistake> {
         let field = Field::Datum(key);
         match cut(self.word(field)?, b'=') {
             (name, Some(value)) if name == key.as_bytes() => Ok(value),
@@ -61,19 +61,12 @@ impl<'a> Words<'a> {
         }
     }
 
-    /// Seven machine data of one type, under keys in this order.
-    pub fn data<N: TryFrom<i64> + Default + Copy>(
-        &mut self,
-        keys: [&'static str; 7],
-    ) -> Result<[N; 7], Mistake>
+    /// A machine datum that is a number.
+    pub fn datum<N: TryFrom<i64>>(&mut self, key: &'static str) -> Result<N, Mistake>
     where
         N::Error: Drop,
     {
-        let mut values = [N::default(); 7];
-        for (value, key) in values.iter_mut().zip(keys) {
-            *value = number_in(self.datum(key)?).ok_or(Mistake::Expected(Field::Datum(key)))?;
-        }
-        Ok(values)
+        number_in(self.value(key)?).ok_or(Mistake::Expected(Field::Datum(key)))
     }
 
     pub fn flag(&mut self, field: Field) -> Result<bool, Mistake> {
