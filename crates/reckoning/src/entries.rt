@@ -76,10 +76,10 @@ impl Line {
 }
 
 impl Script<'_> {
-    fn add_line(&mut self, number: u8, last: bool) -> anyhow::Result<bool> {
+    fn add_line(&mut self, number: u8, last: bool) -> bool {
         if self.chance.one_in(8) {
             let line = self.chance.pick(&LINES, b"");
-            self.make(&Call::Add { number, line })?;
+            self.make(&Call::Add { number, line });
         }
         let line = Line::good(&mut self.chance, last);
         self.make(&Call::Add {
@@ -89,47 +89,44 @@ impl Script<'_> {
     }
 
     /// Enters a program; now and then it is too long, not ended, abandoned or left open.
-    pub fn write(&mut self, number: u8) -> anyhow::Result<()> {
+    pub fn write(&mut self, number: u8) {
         let measure = self.chance.pick(&MEASURES, Measure::Millimetre);
-        if !self.make(&Call::Open { number, measure })? && !self.chance.one_in(5) {
-            return Ok(());
+        if !self.make(&Call::Open { number, measure }) && !self.chance.one_in(5) {
+            return;
         }
         let most = if self.chance.one_in(25) { 130 } else { 5 };
         for _ in 0..=self.chance.below(most) {
-            self.add_line(number, false)?;
+            self.add_line(number, false);
         }
         if !self.chance.one_in(12) {
-            self.add_line(number, true)?;
+            self.add_line(number, true);
         }
         match self.chance.below(20) {
-            0 => self.make(&Call::Abandon { number })?,
+            0 => self.make(&Call::Abandon { number }),
             1 => true,
-            _ => self.make(&Call::Close { number })?,
+            _ => self.make(&Call::Close { number }),
         };
-        Ok(())
     }
 
     /// A call on an entry that is mostly not the open one.
-    pub fn stray_entry(&mut self) -> anyhow::Result<()> {
+    pub fn stray_entry(&mut self) {
         let number = self.program();
         let line = self.chance.pick(&LINES, b"");
         match self.chance.below(3) {
-            0 => self.make(&Call::Abandon { number })?,
-            1 => self.make(&Call::Close { number })?,
-            _ => self.make(&Call::Add { number, line })?,
+            0 => self.make(&Call::Abandon { number }),
+            1 => self.make(&Call::Close { number }),
+            _ => self.make(&Call::Add { number, line }),
         };
-        Ok(())
     }
 
     /// Programs of one line until the store is full, and more.
-    pub fn fill(&mut self) -> anyhow::Result<()> {
+    pub fn fill(&mut self) {
         for number in 1..=18u8 {
             let measure = Measure::Millimetre;
-            if self.make(&Call::Open { number, measure })? {
-                self.add_line(number, true)?;
-                self.make(&Call::Close { number })?;
+            if self.make(&Call::Open { number, measure }) {
+                self.add_line(number, true);
+                self.make(&Call::Close { number });
             }
         }
-        Ok(())
     }
 }

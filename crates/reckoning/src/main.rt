@@ -26,11 +26,12 @@ use crate::examples::work;
 use crate::script::Script;
 use crate::sides::{Build, Sides};
 use crate::tally::Tally;
+use anyhow::anyhow;
 
 const CALLS: u32 = 10_000;
 
 // Near the ends of a drive, at zero, with wide plays and none.
-const BUILDS: [([i64; 3], u16, [u16; 2]); 8] = [
+static BUILDS: [([i64; 3], u16, [u16; 2]); 8] = [
     ([0, 0, 999_999_999_950], 3, [2, 7]),
     ([-999_999_999_960, 7, 12], 65_535, [0, 300]),
     ([5, -999_999_999_900, -999_999_999_000], 3, [400, 550]),
@@ -49,21 +50,35 @@ fn run(rt: &HostRuntime) -> anyhow::Result<()> {
     let mut tally = Tally::new();
     work(rt, &mut tally)?;
     println!(rt; "run  calls  differences")?;
-    for (seed, (motors, play, plays)) in (1u32..).zip(BUILDS) {
+    for (seed, (motors, play, plays)) in (1u32..).zip(BUILDS.iter()) {
         let build = Build {
-            motors,
-            play,
-            plays,
+            motors: *motors,
+            play: *play,
+            plays: *plays,
         };
-        let mut script = Script {
-            chance: Chance::new(u64::from(seed)),
-            sides: Sides::new(rt, build, tally)?,
-            calls: CALLS,
-        };
-        script.run()?;
-        let calls = script.sides.calls;
+        let (calls, reached) = run_script(rt, seed, build, tally)?;
         println!(rt; "{seed:>3} {calls:>6} {:>12}", 0)?;
-        tally = script.sides.tally;
+        tally = reached;
     }
     tally.print(rt)
+}
+
+// The number of calls made, and what all runs so far have reached.
+fn run_script(
+    rt: &HostRuntime,
+    seed: u32,
+    build: Build,
+    tally: Tally,
+) -> anyhow::Result<(u32, Tally)> {
+    let mut script = Script {
+        chance: Chance::new(u64::from(seed)),
+        sides: Sides::new(rt, build, tally)?,
+        calls: CALLS,
+    };
+    script.run();
+    if script.sides.agree {
+        Ok((script.sides.calls, script.sides.tally))
+    } else {
+        Err(anyhow!("the two sides differ"))
+    }
 }

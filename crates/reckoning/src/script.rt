@@ -2,7 +2,7 @@ use crate::chance::Chance;
 use crate::samples::{
     COMMANDS, FAR, FIRST_ROW, MEASURES, MODES, REFUSED, ROWS, SPEEDS, commands_of, record,
 };
-use crate::sides::Sides;
+use crate::sides::{Answers, Sides};
 use axis::Levels;
 use module::{Act, Call};
 use states::{Command, Order, Switches};
@@ -18,29 +18,28 @@ pub struct Script<'a> {
 
 impl Script<'_> {
     /// Makes so many calls.
-    pub fn run(&mut self) -> anyhow::Result<()> {
+    pub fn run(&mut self) {
         for axis in 1..=3 {
-            self.set_up(axis)?;
+            self.set_up(axis);
         }
         for _ in 0..self.calls {
-            self.step()?;
+            self.step();
         }
-        Ok(())
     }
 
-    /// Whether the call is accepted. After the last call of the run no more are made, and none is accepted.
-    pub fn make(&mut self, call: &Call) -> anyhow::Result<bool> {
+    /// Whether the call is accepted. After the last call of the run, or a difference, no more are made, and none is accepted.
+    pub fn make(&mut self, call: &Call) -> bool {
         if self.sides.calls >= self.calls {
-            return Ok(false);
+            return false;
         }
-        Ok(self.sides.make(call)?.reply.is_ok())
+        matches!(self.sides.make(call), Some(Answers { reply: Ok(_), .. }))
     }
 
-    fn act(&mut self, axis: u8, act: Act) -> anyhow::Result<bool> {
+    fn act(&mut self, axis: u8, act: Act) -> bool {
         self.make(&Call::OnAxis { axis, act })
     }
 
-    fn step(&mut self) -> anyhow::Result<()> {
+    fn step(&mut self) {
         let axis = self.axis();
         match self.chance.below(200) {
             0..=29 => self.go_on(axis, 8),
@@ -50,14 +49,13 @@ impl Script<'_> {
             142..=153 => self.call_of_axis(axis),
             154..=159 => {
                 let number = self.program();
-                self.make(&Call::DeleteProgram { number })?;
-                Ok(())
+                self.make(&Call::DeleteProgram { number });
             }
             160..=163 => self.stray_entry(),
             164 => self.fill(),
             165..=179 => {
                 let number = self.program();
-                self.write(number)?;
+                self.write(number);
                 self.start(axis, number)
             }
             _ => {
@@ -83,64 +81,60 @@ impl Script<'_> {
         }
     }
 
-    fn call_of_axis(&mut self, axis: u8) -> anyhow::Result<()> {
+    fn call_of_axis(&mut self, axis: u8) {
         let row = self.chance.pick(&REFUSED, FIRST_ROW);
         let act = match self.chance.below(12) {
             0 => Act::Delete,
             1..=3 => Act::Enter(record(row, Measure::Inch)),
             _ => Act::Observe,
         };
-        self.act(axis, act)?;
-        Ok(())
+        self.act(axis, act);
     }
 
     // Ticks, and now and then what may come between them.
-    fn go_on(&mut self, axis: u8, most: u32) -> anyhow::Result<()> {
+    fn go_on(&mut self, axis: u8, most: u32) {
         for _ in 0..=self.chance.below(most) {
             match self.chance.below(50) {
-                0 => self.levels(axis)?,
+                0 => self.levels(axis),
                 1 | 2 => {
                     let order = self.of_kind(8, Command::Stop);
-                    self.act(axis, Act::Order(order))?;
+                    self.act(axis, Act::Order(order));
                 }
-                3 => self.set_up(axis)?,
+                3 => self.set_up(axis),
                 4 | 5 => {
                     let order = self.any_order();
-                    self.act(axis, Act::Order(order))?;
+                    self.act(axis, Act::Order(order));
                 }
                 _ => {
-                    self.act(axis, Act::Tick)?;
+                    self.act(axis, Act::Tick);
                 }
             }
         }
-        Ok(())
     }
 
-    fn order(&mut self, axis: u8) -> anyhow::Result<()> {
+    fn order(&mut self, axis: u8) {
         let order = self.any_order();
-        if self.act(axis, Act::Order(order))? && !self.chance.one_in(4) {
-            return self.go_on(axis, 9);
+        if self.act(axis, Act::Order(order)) && !self.chance.one_in(4) {
+            self.go_on(axis, 9);
         }
-        Ok(())
     }
 
     // A program on an axis, held, stopped and taken over on its way.
-    fn start(&mut self, axis: u8, byte: u8) -> anyhow::Result<()> {
+    fn start(&mut self, axis: u8, byte: u8) {
         let mode = self.chance.small(8, 2);
         let start = Order {
             byte,
             ..self.of_kind(mode, Command::Start)
         };
-        if !self.act(axis, Act::Order(start))? {
-            return Ok(());
+        if !self.act(axis, Act::Order(start)) {
+            return;
         }
         for _ in 0..=self.chance.below(6) {
-            self.go_on(axis, 12)?;
+            self.go_on(axis, 12);
             let mode = self.chance.small(8, 2);
             let on = self.of_kind(mode, Command::TakeOver);
-            self.act(axis, Act::Order(on))?;
+            self.act(axis, Act::Order(on));
         }
-        Ok(())
     }
 
     fn any_order(&mut self) -> Order {
@@ -176,40 +170,38 @@ impl Script<'_> {
         }
     }
 
-    fn levels(&mut self, axis: u8) -> anyhow::Result<()> {
+    fn levels(&mut self, axis: u8) {
         let switches = Switches {
             begin: self.chance.one_in(4),
             end: self.chance.one_in(4),
         };
         let ready = !self.chance.one_in(3);
-        self.act(axis, Act::Level(Levels { switches, ready }))?;
+        self.act(axis, Act::Level(Levels { switches, ready }));
         for _ in 0..self.chance.below(3) {
             let order = self.any_order();
-            self.act(axis, Act::Order(order))?;
-            self.act(axis, Act::Tick)?;
+            self.act(axis, Act::Order(order));
+            self.act(axis, Act::Tick);
         }
         self.make_ready(axis)
     }
 
-    fn make_ready(&mut self, axis: u8) -> anyhow::Result<()> {
+    fn make_ready(&mut self, axis: u8) {
         if !self.chance.one_in(5) {
             let switches = Switches::default();
             let ready = true;
-            self.act(axis, Act::Level(Levels { switches, ready }))?;
+            self.act(axis, Act::Level(Levels { switches, ready }));
         }
-        Ok(())
     }
 
     // Machine data, and mostly a ready drive and a reference.
-    fn set_up(&mut self, axis: u8) -> anyhow::Result<()> {
+    fn set_up(&mut self, axis: u8) {
         let row = self.chance.pick(&ROWS, FIRST_ROW);
         let measure = self.chance.pick(&MEASURES, Measure::Millimetre);
-        self.act(axis, Act::Enter(record(row, measure)))?;
-        self.make_ready(axis)?;
+        self.act(axis, Act::Enter(record(row, measure)));
+        self.make_ready(axis);
         if !self.chance.one_in(5) {
             let reference = self.of_kind(5, Command::Start);
-            self.act(axis, Act::Order(reference))?;
+            self.act(axis, Act::Order(reference));
         }
-        Ok(())
     }
 }

@@ -7,17 +7,18 @@ pub struct Shown<'a>(pub &'a Call<'a>);
 
 impl fmt::Display for Shown<'_> {
     fn fmt<W: fmt::Write>(&self, f: &mut fmt::Formatter<W>) -> fmt::Result {
-        match *self.0 {
+        let (name, number) = match *self.0 {
             Call::OnAxis { axis, act } => {
                 let act = ShownAct(act);
-                write!(f, "axis {axis} {act}")
+                return write!(f, "axis {axis} {act}");
             }
-            Call::Open { number, measure } => write!(f, "open {number} {measure:?}"),
-            Call::Add { number, line } => write!(f, "add {number} {line:?}"),
-            Call::Close { number } => write!(f, "close {number}"),
-            Call::Abandon { number } => write!(f, "abandon {number}"),
-            Call::DeleteProgram { number } => write!(f, "delete program {number}"),
-        }
+            Call::Add { number, line } => return write!(f, "add {number} {line:?}"),
+            Call::Open { number, measure } => return write!(f, "open {number} {measure:?}"),
+            Call::Close { number } => ("close", number),
+            Call::Abandon { number } => ("abandon", number),
+            Call::DeleteProgram { number } => ("delete program", number),
+        };
+        write!(f, "{name} {number}")
     }
 }
 

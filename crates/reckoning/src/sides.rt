@@ -42,41 +42,54 @@ pub struct Sides<'a> {
     plant: Plant,
     pub calls: u32,
     pub tally: Tally,
+    /// whether they agreed so far
+    pub agree: bool,
 }
 
 impl<'a> Sides<'a> {
     /// A new module on both sides, with what earlier runs have reached.
     pub fn new(rt: &'a HostRuntime, build: Build, tally: Tally) -> anyhow::Result<Sides<'a>> {
-        let made = Module::new(rt.alloc(), core_drives(build)?);
-        let Ok(core) = made else {
+        let (Some(drives), Some(plant)) = (core_drives(build), plain_drives(build)) else {
+            return Err(anyhow!("a drive is refused"));
+        };
+        let Ok(core) = Module::new(rt.alloc(), drives) else {
             return Err(anyhow!("there is no memory for a module"));
         };
         Ok(Sides {
             rt,
             core,
-            plant: plain_drives(build)?,
+            plant,
             calls: 0,
             tally,
+            agree: true,
         })
     }
 
-    /// Makes a call on both sides; an error where they differ.
-    pub fn make(&mut self, call: &Call) -> anyhow::Result<Answers> {
+    /// Makes a call on both sides, unless they differed before; none where they differ.
+    pub fn make(&mut self, call: &Call) -> Option<Answers> {
+        if !self.agree {
+            return None;
+        }
         self.calls = self.calls.saturating_add(1);
         let before = self.plant.courses();
         let core = self.ask_core(call);
         let plain = self.ask_plain(call);
         if core != plain {
-            let calls = self.calls;
-            let shown = Shown(call);
-            println!(self.rt; "call {calls}: {shown}\nmodule: {core:?}\nsecond: {plain:?}")?;
-            return Err(anyhow!("the two sides differ"));
+            self.agree = false;
+            // Where nothing can be printed, the run fails all the same.
+            self.tell(call, &core, &plain).ok();
+            return None;
         }
         self.tally.count(call, core.reply);
-        for (before, after) in before.iter().zip(self.plant.courses()) {
-            self.tally.count_course(*before, after);
-        }
-        Ok(core)
+        self.tally.count_courses(before, self.plant.courses());
+        Some(core)
+    }
+
+    fn tell(&self, call: &Call, core: &Answers, plain: &Answers) -> anyhow::Result<()> {
+        let calls = self.calls;
+        let shown = Shown(call);
+        println!(self.rt; "call {calls}: {shown}\nmodule: {core:?}\nsecond: {plain:?}")?;
+        Ok(())
     }
 
     fn ask_core(&mut self, call: &Call) -> Answers {
@@ -124,35 +137,33 @@ impl<'a> Sides<'a> {
     }
 }
 
-fn core_drives(build: Build) -> anyhow::Result<Drives<ClockStage, Screw, Screws>> {
+// None where fault 2 refuses a drive.
+fn core_drives(build: Build) -> Option<Drives<ClockStage, Screw, Screws>> {
     let [first, second, third] = build.motors;
-    let [inner, outer] = build.plays;
-    Ok(Drives {
-        first: clock(first)?,
-        second: layer(clock(second)?, build.play)?,
-        third: layer(layer(clock(third)?, inner)?, outer)?,
+    Some(Drives {
+        first: ClockStage::new(first).ok()?,
+        second: screw(second, build.play)?,
+        third: screws(third, build.plays)?,
     })
 }
 
-fn clock(motor: i64) -> anyhow::Result<ClockStage> {
-    ClockStage::new(motor).map_err(|_| anyhow!("no clock stage"))
+fn screw(motor: i64, play: u16) -> Option<Screw> {
+    let stage = ClockStage::new(motor).ok()?;
+    TakeUp::new(stage, play).ok()
 }
 
-fn layer<D: Drive + Drop>(below: D, play: u16) -> anyhow::Result<TakeUp<D>> {
-    TakeUp::new(below, play).map_err(|_| anyhow!("no layer"))
+fn screws(motor: i64, plays: [u16; 2]) -> Option<Screws> {
+    let [inner, outer] = plays;
+    TakeUp::new(screw(motor, inner)?, outer).ok()
 }
 
-fn plain_drives(build: Build) -> anyhow::Result<Plant> {
+fn plain_drives(build: Build) -> Option<Plant> {
     let [first, second, third] = build.motors;
-    Ok(Plant::new(
-        stage(first, &[])?,
-        stage(second, &[build.play])?,
-        stage(third, &build.plays)?,
+    Some(Plant::new(
+        Stage::new(first, &[])?,
+        Stage::new(second, &[build.play])?,
+        Stage::new(third, &build.plays)?,
     ))
-}
-
-fn stage(motor: i64, plays: &[u16]) -> anyhow::Result<Stage> {
-    Stage::new(motor, plays).ok_or_else(|| anyhow!("no stage"))
 }
 
 fn axis_of(call: &Call) -> u8 {
@@ -170,7 +181,10 @@ fn sight(axis: u8, observation: Observation) -> Sight {
         shift: Whole::of(observation.shift),
         actual: Whole::of(observation.actual),
         rest: Whole::of(observation.rest),
-        trouble: observation.fault.map(|fault| Trouble::shown(axis, fault)),
+        trouble: match observation.fault {
+            Some(fault) => Some(Trouble::shown(axis, fault)),
+            None => None,
+        },
         feedback: observation.feedback,
     }
 }

@@ -59,8 +59,16 @@ impl Tally {
         }
     }
 
-    /// What became of the program of an axis in a call.
-    pub fn count_course(&mut self, before: Course, after: Course) {
+    /// What became of the programs of the axes in a call.
+    pub fn count_courses(&mut self, before: [Course; 3], after: [Course; 3]) {
+        let [first, second, third] = before;
+        let [one, two, three] = after;
+        self.count_course(first, one);
+        self.count_course(second, two);
+        self.count_course(third, three);
+    }
+
+    fn count_course(&mut self, before: Course, after: Course) {
         match (before, after) {
             (Course::Runs, Course::Held) => add(Some(&mut self.holds)),
             (Course::Runs | Course::Held, Course::Idle) => add(Some(&mut self.ends)),
