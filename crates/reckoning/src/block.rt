@@ -36,8 +36,8 @@ pub fn read(line: &[u8], measure: Measure, blocks: usize) -> Result<Option<Block
     if blocks == 0 && line.first() == Some(&b'%') {
         return Ok(None);
     }
-    let words = Words::of(line, measure).map_err(|place| Trouble::in_line(32, place))?;
-    ask_order(words.list()).map_err(|place| Trouble::in_line(33, place))?;
+    let words = Words::of(line, measure)?;
+    ask_order(words.list())?;
     let mut block = None;
     for word in words.list().iter().flatten() {
         if !in_range(word, measure) {
@@ -51,19 +51,19 @@ pub fn read(line: &[u8], measure: Measure, blocks: usize) -> Result<Option<Block
 }
 
 // Question 33: N G X F M, none but G twice, one G of each group.
-fn ask_order(words: &[Option<Word>]) -> Result<(), usize> {
+fn ask_order(words: &[Option<Word>]) -> Result<(), Trouble> {
     let mut rank = 0;
     let mut groups = [false; 4];
     for word in words.iter().flatten() {
         let own = rank_of(word.letter);
         if own < rank || own == rank && word.letter != b'G' {
-            return Err(word.place);
+            return Err(Trouble::in_line(33, word.place));
         }
         rank = own;
-        if let (Some(group), b'G') = (group_of(word.number()), word.letter) {
+        if let (Some(group), b'G') = (group_of(word.number), word.letter) {
             match groups.get_mut(group) {
                 Some(seen) if !*seen => *seen = true,
-                _ => return Err(word.place),
+                _ => return Err(Trouble::in_line(33, word.place)),
             }
         }
     }
@@ -91,17 +91,17 @@ fn group_of(number: Whole) -> Option<usize> {
 
 fn in_range(word: &Word, measure: Measure) -> bool {
     match word.letter {
-        b'N' => word.number().within(Whole(1), Whole(9_999)),
-        b'G' => group_of(word.number()).is_some(),
+        b'N' => word.number.within(Whole(1), Whole(9_999)),
+        b'G' => group_of(word.number).is_some(),
         b'X' => word.units(measure).size() <= REACH,
-        b'F' => word.number().within(Whole(1), Whole(65_000)),
+        b'F' => word.number.within(Whole(1), Whole(65_000)),
         _ => true,
     }
 }
 
 impl Block {
     fn choose(&mut self, word: &Word, measure: Measure) {
-        let number = word.number();
+        let number = word.number;
         let short = u8::try_from(number.0).ok();
         match (word.letter, group_of(number)) {
             (b'G', Some(0)) => self.motion = short,

@@ -264,7 +264,7 @@ fn ramp(rt: &HostRuntime) -> anyhow::Result<()> {
     };
     print!(rt; "ramp")?;
     for (i, frequency) in (1u32..).zip(FREQUENCIES.iter()) {
-        same(data.run_up(data.greatest_rate(), i).0 == Whole(*frequency))?;
+        same(data.run_up(data.greatest_rate, i).0 == Whole(*frequency))?;
         print!(rt; " {frequency}")?;
     }
     Ok(())

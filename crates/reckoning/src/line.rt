@@ -1,3 +1,4 @@
+use crate::trouble::Trouble;
 use crate::whole::{Whole, ZERO};
 use units::Measure;
 
@@ -7,8 +8,8 @@ pub struct Word {
     pub letter: u8,
     /// the byte where it starts
     pub place: usize,
-    /// its digits as one number
-    digits: Whole,
+    /// its digits without a sign, as one number
+    pub number: Whole,
     signed: bool,
     minus: bool,
     whole: u32,
@@ -22,7 +23,7 @@ impl Word {
         Word {
             letter,
             place,
-            digits: ZERO,
+            number: ZERO,
             signed: false,
             minus: false,
             whole: 0,
@@ -40,7 +41,7 @@ impl Word {
                 self.minus = byte == b'-';
             }
             b'0'..=b'9' => {
-                self.digits = self.digits * Whole(10) + Whole::of(byte) - Whole(48);
+                self.number = self.number * Whole(10) + Whole::of(byte) - Whole(48);
                 let digits = if self.point {
                     &mut self.decimals
                 } else {
@@ -62,14 +63,9 @@ impl Word {
             }
     }
 
-    /// The digits without a sign, as one number.
-    pub fn number(&self) -> Whole {
-        self.digits
-    }
-
     /// The value in units.
     pub fn units(&self, measure: Measure) -> Whole {
-        let mut units = self.digits;
+        let mut units = self.number;
         for _ in self.decimals..places(measure) {
             units = units * Whole(10);
         }
@@ -96,8 +92,8 @@ pub struct Words {
 }
 
 impl Words {
-    /// The words, or the place where 32 is answered.
-    pub fn of(line: &[u8], measure: Measure) -> Result<Words, usize> {
+    /// The words, or 32 with its place.
+    pub fn of(line: &[u8], measure: Measure) -> Result<Words, Trouble> {
         let mut words = Words {
             words: [None; 80],
             count: 0,
@@ -110,12 +106,12 @@ impl Words {
         }
         words.end_word()?;
         match words.remark {
-            Some(place) => Err(place),
+            Some(place) => Err(Trouble::in_line(32, place)),
             None => Ok(words),
         }
     }
 
-    fn take(&mut self, byte: u8, place: usize) -> Result<(), usize> {
+    fn take(&mut self, byte: u8, place: usize) -> Result<(), Trouble> {
         if self.remark.is_some() {
             if byte == b')' {
                 self.remark = None;
@@ -131,15 +127,15 @@ impl Words {
             b' ' => {}
             b'(' => self.remark = Some(place),
             b'N' | b'G' | b'X' | b'F' | b'M' => self.open = Some(Word::new(byte, place)),
-            _ => return Err(place),
+            _ => return Err(Trouble::in_line(32, place)),
         }
         Ok(())
     }
 
-    fn end_word(&mut self) -> Result<(), usize> {
+    fn end_word(&mut self) -> Result<(), Trouble> {
         if let Some(word) = self.open.take() {
             if !word.well_formed(self.measure) {
-                return Err(word.place);
+                return Err(Trouble::in_line(32, word.place));
             }
             if let Some(free) = self.words.get_mut(self.count) {
                 *free = Some(word);

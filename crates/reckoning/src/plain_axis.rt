@@ -106,12 +106,11 @@ impl Axis {
     }
 
     pub fn stands(&self) -> bool {
-        self.travel.is_none() && self.course() != Course::Runs
+        self.travel.is_none() && !matches!(self.course(), Course::Runs)
     }
 
     pub fn uses(&self, program: u8) -> bool {
-        self.running
-            .is_some_and(|running| running.program == program)
+        matches!(self.running, Some(running) if running.program == program)
     }
 
     /// The pulses from zero.
@@ -120,7 +119,7 @@ impl Axis {
     }
 
     pub fn enter(&mut self, raw: RawData) -> Result<(), u8> {
-        require(self.stands(), 3)?;
+        require(&[(self.stands(), 3)])?;
         self.data = Some(Data::checked(raw)?);
         self.zero = self.drive.count;
         self.restart();
@@ -128,8 +127,7 @@ impl Axis {
     }
 
     pub fn delete(&mut self) -> Result<(), u8> {
-        require(self.stands(), 3)?;
-        require(self.data.is_some(), 7)?;
+        require(&[(self.stands(), 3), (self.data.is_some(), 7)])?;
         self.data = None;
         self.restart();
         Ok(())
@@ -164,12 +162,14 @@ impl Axis {
     /// Questions 18 to 21.
     pub fn ask_goal(&self, goal: Goal, limited: bool) -> Result<(), u8> {
         let data = self.data.ok_or(7)?;
-        require(goal.rate.within(Whole(1), data.greatest_rate()), 18)?;
-        let inside = goal.target.within(data.low(), data.high());
-        require(inside || !limited, 19)?;
+        let inside = goal.target.within(data.low, data.high);
         let count = self.zero + data.pulses(goal.target);
-        require(self.drive.reaches(count), 20)?;
-        require(self.drive.ready, 21)
+        require(&[
+            (goal.rate.within(Whole(1), data.greatest_rate), 18),
+            (inside || !limited, 19),
+            (self.drive.reaches(count), 20),
+            (self.drive.ready, 21),
+        ])
     }
 
     pub fn start(&mut self, program: u8) {
@@ -186,9 +186,10 @@ impl Axis {
 
     pub fn sight(&self) -> Sight {
         let shift = self.offset + self.tool + self.chosen();
-        let rest = self
-            .travel
-            .map_or(ZERO, |travel| travel.goal.target - self.coordinate);
+        let rest = match self.travel {
+            Some(travel) => travel.goal.target - self.coordinate,
+            None => ZERO,
+        };
         Sight {
             mode: self.mode,
             auxiliary: if matches!(self.mode, 8 | 9) {
@@ -212,8 +213,12 @@ impl Axis {
         }
     }
 
+    fn measure(&self) -> Option<Measure> {
+        Some(self.data?.measure)
+    }
+
     fn feedback(&self) -> u8 {
-        let measure = self.data.map(|data| data.measure());
+        let measure = self.measure();
         let bits = [
             (0x01, measure == Some(Measure::Degree)),
             (0x02, measure == Some(Measure::Millimetre)),

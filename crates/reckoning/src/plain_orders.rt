@@ -61,21 +61,26 @@ impl Axis {
     }
 
     fn ask(&self, order: Order, shelf: &Shelf) -> Result<Deed, u8> {
-        require(is_known(order.mode), 8)?;
-        require(admits(order.mode, order.command), 9)?;
-        require(!self.travel.is_some_and(|travel| travel.braking), 10)?;
-        if order.command == Command::Stop {
-            return Ok(Deed::Stop);
+        let braking = matches!(self.travel, Some(travel) if travel.braking);
+        let stop = matches!(order.command, Command::Stop);
+        require(&[
+            (is_known(order.mode), 8),
+            (admits(order.mode, order.command), 9),
+            (!braking, 10),
+            (stop || self.stands(), 11),
+        ])?;
+        match order.mode {
+            _ if stop => Ok(Deed::Stop),
+            4 => Ok(Deed::Off),
+            17 => Ok(Deed::ClearFault),
+            _ => self.ask_with_data(order, shelf),
         }
-        require(self.stands(), 11)?;
-        if order.mode == 4 {
-            return Ok(Deed::Off);
-        }
-        if order.mode == 17 {
-            return Ok(Deed::ClearFault);
-        }
+    }
+
+    fn ask_with_data(&self, order: Order, shelf: &Shelf) -> Result<Deed, u8> {
         let data = self.data.ok_or(7)?;
-        require(self.referenced || !matches!(order.mode, 6..=9), 12)?;
+        let referenced = self.referenced || !matches!(order.mode, 6..=9);
+        require(&[(referenced, 12)])?;
         match (order.mode, order.command) {
             (5, _) => Ok(Deed::Reference(data)),
             (8 | 9, Command::TakeOver) => self.ask_take_over(shelf),
@@ -87,14 +92,15 @@ impl Axis {
 
     fn ask_take_over(&self, shelf: &Shelf) -> Result<Deed, u8> {
         let held = self.running.ok_or(16)?;
-        require(shelf.find(held.program).is_some(), 17)?;
-        require(held.unfinished.is_none() || self.drive.ready, 21)?;
+        require(&[
+            (shelf.find(held.program).is_some(), 17),
+            (held.unfinished.is_none() || self.drive.ready, 21),
+        ])?;
         Ok(Deed::TakeOver)
     }
 
     fn ask_shift(&self, order: Order) -> Result<Deed, u8> {
         let value = Whole::of(order.double);
-        require(in_reach(order.double) || matches!(order.mode, 14 | 16), 13)?;
         let (sum, deed) = match order.mode {
             12 => (value, Deed::Offset(value)),
             13 => (self.offset + value, Deed::Offset(self.offset + value)),
@@ -102,17 +108,21 @@ impl Axis {
             15 => (value, Deed::Tool(value)),
             _ => (ZERO, Deed::Tool(ZERO)),
         };
-        require(sum.size() <= REACH, 22)?;
+        let may_use = in_reach(order.double) || matches!(order.mode, 14 | 16);
+        require(&[(may_use, 13), (sum.size() <= REACH, 22)])?;
         Ok(deed)
     }
 
     fn ask_move(&self, order: Order, data: Data) -> Result<Deed, u8> {
-        require((1..=65_000).contains(&order.word), 13)?;
-        require(in_reach(order.double) || matches!(order.mode, 1 | 2), 13)?;
-        require(order.double >= 0 || order.mode != 7, 13)?;
+        let speed = Whole::of(order.word);
+        require(&[
+            (speed.within(Whole(1), Whole(65_000)), 13),
+            (in_reach(order.double) || matches!(order.mode, 1 | 2), 13),
+            (order.double >= 0 || order.mode != 7, 13),
+        ])?;
         let goal = Goal {
             target: self.target_of(order, data),
-            rate: data.rate(Whole::of(order.word)),
+            rate: data.rate(speed),
         };
         self.ask_goal(goal, self.referenced)?;
         Ok(Deed::Move(goal))
@@ -120,14 +130,14 @@ impl Axis {
 
     fn target_of(&self, order: Order, data: Data) -> Whole {
         let value = Whole::of(order.double);
-        let backward = order.command == Command::Backward;
+        let backward = matches!(order.command, Command::Backward);
         match order.mode {
             6 => value + self.offset + self.tool,
             7 if backward => self.coordinate - value,
             7 => self.coordinate + value,
-            _ if backward && self.referenced => data.low(),
+            _ if backward && self.referenced => data.low,
             _ if backward => ZERO - REACH,
-            _ if self.referenced => data.high(),
+            _ if self.referenced => data.high,
             _ => REACH,
         }
     }
@@ -161,8 +171,8 @@ impl Axis {
     }
 
     fn reference(&mut self, data: Data) {
-        self.coordinate = data.reference();
-        self.zero = self.drive.count - data.pulses(data.reference());
+        self.coordinate = data.reference;
+        self.zero = self.drive.count - data.pulses(data.reference);
         self.referenced = true;
         self.in_position = true;
     }
@@ -182,6 +192,6 @@ impl Axis {
 
 fn ask_start(program: u8, data: Data, shelf: &Shelf) -> Result<Deed, u8> {
     let stored = shelf.find(program).ok_or(14)?;
-    require(stored.measure == data.measure(), 15)?;
+    require(&[(stored.measure == data.measure, 15)])?;
     Ok(Deed::Start(program))
 }

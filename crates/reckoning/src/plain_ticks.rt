@@ -18,17 +18,23 @@ impl Axis {
 
     // The fault of a tick ends the program and becomes the axis's.
     fn fail(&mut self, number: u8, block: u8) -> Trouble {
-        let program = self.running.map_or(0, |running| running.program);
+        let (program, _) = self.last_block();
         let trouble = Trouble::at(number, self.number, program, block);
         self.running = None;
         self.trouble = Some(trouble);
         trouble
     }
 
+    // The program and its block taken last, 0 for none.
+    fn last_block(&self) -> (u8, u8) {
+        match self.running {
+            Some(running) => (running.program, running.taken),
+            None => (0, 0),
+        }
+    }
+
     fn tick_program(&mut self, running: Running, data: Data, shelf: &Shelf) -> Result<(), Trouble> {
-        let stored = shelf.find(running.program);
-        let next = stored.and_then(|program| program.block(usize::from(running.taken)));
-        let Some(block) = next else {
+        let Some(block) = shelf.block(running.program, running.taken) else {
             self.running = None;
             return Ok(());
         };
@@ -40,20 +46,17 @@ impl Axis {
             end: block.auxiliary,
             ..running
         };
-        match block.target {
-            None => self.take_block(after, &block),
-            Some(word) => {
-                let goal = self.goal_of(&after, word, data);
-                if let Err(number) = self.ask_goal(goal, true) {
-                    return Err(self.fail(number, taken));
-                }
-                self.take_block(after, &block);
-                self.begin_move(goal);
-            }
-        }
-        if block.target.is_none() {
+        let Some(word) = block.target else {
+            self.take_block(after, &block);
             self.block_done(after, false);
+            return Ok(());
+        };
+        let goal = self.goal_of(&after, word, data);
+        if let Err(number) = self.ask_goal(goal, true) {
+            return Err(self.fail(number, taken));
         }
+        self.take_block(after, &block);
+        self.begin_move(goal);
         Ok(())
     }
 
@@ -70,7 +73,7 @@ impl Axis {
         };
         let rate = match choices.motion {
             1 => data.rate(choices.feed),
-            _ => data.greatest_rate(),
+            _ => data.greatest_rate,
         };
         Goal { target, rate }
     }
@@ -93,7 +96,7 @@ impl Axis {
             self.come_to(&travel, data);
             self.travel = None;
             self.referenced = false;
-            let block = self.running.map_or(0, |running| running.taken);
+            let (_, block) = self.last_block();
             return Err(self.fail(number, block));
         }
         if travel.braking {
@@ -105,9 +108,8 @@ impl Axis {
     }
 
     fn ask_tick(&self, travel: &Travel) -> Result<(), u8> {
-        require(self.drive.ready, 24)?;
         let ahead = travel.distance > ZERO && self.end || travel.distance < ZERO && self.begin;
-        require(!ahead, 23)
+        require(&[(self.drive.ready, 24), (!ahead, 23)])
     }
 
     // The coordinate after a tick that does not complete the move.

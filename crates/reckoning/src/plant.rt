@@ -1,7 +1,7 @@
 use crate::plain_axis::{Axis, Sight};
 use crate::shelf::Shelf;
 use crate::stage::Stage;
-use crate::trouble::Trouble;
+use crate::trouble::{Trouble, require};
 use module::{Act, Call};
 use states::{Command, Order};
 
@@ -9,7 +9,7 @@ use states::{Command, Order};
 pub type Reply = Result<Option<Sight>, Trouble>;
 
 /// Whether an axis has a program.
-#[derive(Clone, Copy, PartialEq, Eq, Debug)]
+#[derive(Clone, Copy)]
 pub enum Course {
     Idle,
     Runs,
@@ -36,17 +36,17 @@ impl Plant {
     }
 
     pub fn call(&mut self, call: &Call) -> Reply {
-        let done = match *call {
+        let (program, done) = match *call {
             Call::OnAxis { axis, act } => return self.act(axis, act),
-            Call::Add { number, line } => return self.shelf.add(number, line).map(|()| None),
+            Call::Add { number, line } => return reply(self.shelf.add(number, line)),
             Call::Open { number, measure } => (number, self.shelf.open(number, measure)),
             Call::Close { number } => (number, self.shelf.close(number)),
             Call::Abandon { number } => (number, self.shelf.abandon(number)),
             Call::DeleteProgram { number } => (number, self.delete_program(number)),
         };
         match done {
-            (_, Ok(())) => Ok(None),
-            (program, Err(number)) => Err(Trouble::of_program(number, program)),
+            Ok(()) => Ok(None),
+            Err(number) => Err(Trouble::of_program(number, program)),
         }
     }
 
@@ -56,12 +56,9 @@ impl Plant {
     }
 
     fn delete_program(&mut self, number: u8) -> Result<(), u8> {
-        if self.shelf.find(number).is_none() {
-            return Err(14);
-        }
-        if self.axes.iter().any(|axis| axis.uses(number)) {
-            return Err(36);
-        }
+        let [first, second, third] = &self.axes;
+        let used = first.uses(number) || second.uses(number) || third.uses(number);
+        require(&[(self.shelf.find(number).is_some(), 14), (!used, 36)])?;
         self.shelf.delete(number);
         Ok(())
     }
@@ -74,8 +71,8 @@ impl Plant {
         let done = match act {
             Act::Enter(raw) => axis.enter(raw),
             Act::Delete => axis.delete(),
-            Act::Order(order) => return axis.order(order, &self.shelf).map(|()| None),
-            Act::Tick => return axis.tick(&self.shelf).map(|()| None),
+            Act::Order(order) => return reply(axis.order(order, &self.shelf)),
+            Act::Tick => return reply(axis.tick(&self.shelf)),
             Act::Observe => return Ok(Some(axis.sight())),
             Act::Level(levels) => {
                 axis.begin = levels.switches.begin;
@@ -88,6 +85,13 @@ impl Plant {
             Ok(()) => Ok(None),
             Err(fault) => Err(Trouble::at(fault, number, 0, 0)),
         }
+    }
+}
+
+fn reply(done: Result<(), Trouble>) -> Reply {
+    match done {
+        Ok(()) => Ok(None),
+        Err(trouble) => Err(trouble),
     }
 }
 

@@ -11,7 +11,7 @@ pub struct Program {
 }
 
 impl Program {
-    pub fn block(&self, index: usize) -> Option<Block> {
+    fn block(&self, index: usize) -> Option<Block> {
         self.blocks.get(0..self.count)?.get(index).copied()
     }
 
@@ -54,17 +54,27 @@ impl Shelf {
     }
 
     pub fn find(&self, number: u8) -> Option<&Program> {
-        self.programs
-            .iter()
-            .flatten()
-            .find(|program| program.number == number)
+        for program in self.programs.iter().flatten() {
+            if program.number == number {
+                return Some(program);
+            }
+        }
+        None
+    }
+
+    /// A block of a stored program, by how many stand before it.
+    pub fn block(&self, number: u8, before: u8) -> Option<Block> {
+        self.find(number)?.block(usize::from(before))
     }
 
     pub fn open(&mut self, number: u8, measure: Measure) -> Result<(), u8> {
-        require(number != 0, 26)?;
-        require(self.find(number).is_none(), 27)?;
-        require(self.programs.iter().any(|place| place.is_none()), 28)?;
-        require(self.entry.is_none(), 29)?;
+        let stored = self.programs.iter().flatten().count();
+        require(&[
+            (number != 0, 26),
+            (self.find(number).is_none(), 27),
+            (stored < self.programs.len(), 28),
+            (self.entry.is_none(), 29),
+        ])?;
         self.entry = Some(Program {
             number,
             measure,
@@ -88,7 +98,7 @@ impl Shelf {
 
     pub fn close(&mut self, number: u8) -> Result<(), u8> {
         let entry = self.take(number)?;
-        require(entry.may_close(), 35)?;
+        require(&[(entry.may_close(), 35)])?;
         for place in self.programs.iter_mut() {
             if place.is_none() {
                 *place = Some(entry);

@@ -67,7 +67,12 @@ fn layer_of(number: u8) -> Layer {
     }
 }
 
-/// The number of the question where it is answered "no".
-pub fn require(holds: bool, number: u8) -> Result<(), u8> {
-    if holds { Ok(()) } else { Err(number) }
+/// The number of the first question that is answered "no".
+pub fn require(questions: &[(bool, u8)]) -> Result<(), u8> {
+    for (holds, number) in questions {
+        if !*holds {
+            return Err(*number);
+        }
+    }
+    Ok(())
 }
