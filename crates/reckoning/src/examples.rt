@@ -4,13 +4,15 @@ use crate::sides::{Build, Sides};
 use crate::stage::Stage;
 use crate::tally::Tally;
 use crate::trouble::Trouble;
-use crate::whole::Whole;
-use anyhow::{anyhow, ensure};
 use axis::Levels;
 use drives::clock_stage::ClockStage;
 use drives::take_up::TakeUp;
 use module::{Act, Call};
 use states::{Command, Order, Switches};
+use std::io;
+
+/// The coordinate, and the counts of carriage and motor.
+type Places = (i128, i128, i128);
 
 /// A step of an example.
 #[derive(Clone, Copy)]
@@ -23,8 +25,8 @@ enum Step {
     /// orders of mode 7 at speed 60, by a distance
     Forward(i32),
     Backward(i32),
-    /// so many ticks, and where coordinate, carriage and motor stand after the last
-    Ticks(u32, i128, i128, i128),
+    /// so many ticks, and what stands after the last
+    Ticks(u32, Places),
 }
 
 use Step::{Backward, Beyond, Forward, Stop, Ticks, To};
@@ -46,13 +48,13 @@ static EXAMPLES: [Example; 9] = [
         turn: (4_000, 400),
         steps: &[
             To(1_800, 100),
-            Ticks(1, 10, 1, 1),
-            Ticks(1, 30, 3, 3),
-            Ticks(1, 50, 5, 5),
-            Ticks(1, 70, 7, 7),
-            Ticks(1, 80, 8, 8),
-            Ticks(1, 90, 9, 9),
-            Ticks(1, 100, 10, 10),
+            Ticks(1, (10, 1, 1)),
+            Ticks(1, (30, 3, 3)),
+            Ticks(1, (50, 5, 5)),
+            Ticks(1, (70, 7, 7)),
+            Ticks(1, (80, 8, 8)),
+            Ticks(1, (90, 9, 9)),
+            Ticks(1, (100, 10, 10)),
         ],
     },
     Example {
@@ -61,14 +63,14 @@ static EXAMPLES: [Example; 9] = [
         turn: (4_000, 400),
         steps: &[
             To(1_800, 100),
-            Ticks(1, 10, 1, 1),
-            Ticks(1, 30, 3, 3),
-            Ticks(1, 50, 5, 5),
+            Ticks(1, (10, 1, 1)),
+            Ticks(1, (30, 3, 3)),
+            Ticks(1, (50, 5, 5)),
             Stop,
-            Ticks(1, 70, 7, 7),
-            Ticks(1, 80, 8, 8),
-            Ticks(1, 80, 8, 8),
-            Ticks(1, 80, 8, 8),
+            Ticks(1, (70, 7, 7)),
+            Ticks(1, (80, 8, 8)),
+            Ticks(1, (80, 8, 8)),
+            Ticks(1, (80, 8, 8)),
         ],
     },
     Example {
@@ -77,42 +79,42 @@ static EXAMPLES: [Example; 9] = [
         turn: (1_000, 300),
         steps: &[
             Forward(5),
-            Ticks(13, 5, 2, 2),
+            Ticks(13, (5, 2, 2)),
             Forward(5),
-            Ticks(13, 10, 3, 3),
+            Ticks(13, (10, 3, 3)),
             Forward(5),
-            Ticks(13, 15, 5, 5),
+            Ticks(13, (15, 5, 5)),
         ],
     },
     Example {
         title: "\npulses of 5, 4, -5",
         axis: 1,
         turn: (10, 1),
-        steps: &[To(60, 5), Ticks(13, 5, 1, 1)],
+        steps: &[To(60, 5), Ticks(13, (5, 1, 1))],
     },
     Example {
         title: "",
         axis: 1,
         turn: (10, 1),
-        steps: &[To(60, 4), Ticks(13, 4, 0, 0)],
+        steps: &[To(60, 4), Ticks(13, (4, 0, 0))],
     },
     Example {
         title: "",
         axis: 1,
         turn: (10, 1),
-        steps: &[To(60, -5), Ticks(13, -5, 0, 0)],
+        steps: &[To(60, -5), Ticks(13, (-5, 0, 0))],
     },
     Example {
         title: "\nunit nearest to 5, -5",
         axis: 1,
         turn: (3, 10),
-        steps: &[To(54, 30), Ticks(3, 2, 5, 5)],
+        steps: &[To(54, 30), Ticks(3, (2, 5, 5))],
     },
     Example {
         title: "",
         axis: 1,
         turn: (3, 10),
-        steps: &[To(54, -30), Ticks(3, -1, -5, -5)],
+        steps: &[To(54, -30), Ticks(3, (-1, -5, -5))],
     },
     // The second axis has a play of 3 below its carriage.
     Example {
@@ -121,13 +123,13 @@ static EXAMPLES: [Example; 9] = [
         turn: (1, 1),
         steps: &[
             Forward(1),
-            Ticks(13, 1, 1, 1),
+            Ticks(13, (1, 1, 1)),
             Forward(1),
-            Ticks(13, 2, 2, 2),
+            Ticks(13, (2, 2, 2)),
             Backward(1),
-            Ticks(13, 1, 1, -2),
+            Ticks(13, (1, 1, -2)),
             Forward(1),
-            Ticks(13, 2, 2, 2),
+            Ticks(13, (2, 2, 2)),
         ],
     },
 ];
@@ -156,46 +158,58 @@ struct Bench<'a> {
 
 impl Bench<'_> {
     // The drive ready, the data entered, and a reference; then the steps.
-    fn work(&mut self, example: &Example) -> anyhow::Result<()> {
-        let (units, pulses) = example.turn;
+    fn work(&mut self, example: &Example) -> io::Result<bool> {
+        let mut holds = self.set_up(example.turn);
+        for step in example.steps {
+            holds &= self.step(*step)?;
+        }
+        Ok(holds)
+    }
+
+    fn set_up(&mut self, turn: (u32, u32)) -> bool {
+        let (units, pulses) = turn;
         let levels = Levels {
             switches: Switches::default(),
             ready: true,
         };
-        self.done(Act::Level(levels))?;
-        self.done(Act::Enter(turned(units, pulses)))?;
-        self.done(start(5, 0, 0))?;
-        for step in example.steps {
-            self.step(*step)?;
-        }
-        Ok(())
+        self.does(Act::Level(levels))
+            && self.does(Act::Enter(turned(units, pulses)))
+            && self.does(start(5, 0, 0))
     }
 
-    fn step(&mut self, step: Step) -> anyhow::Result<()> {
-        match step {
-            To(speed, place) => self.done(start(6, speed, place)),
-            Beyond(speed, place) => self.beyond(start(6, speed, place)),
-            Stop => self.done(given(6, Command::Stop, 0, 0)),
-            Forward(distance) => self.done(given(7, Command::Forward, 60, distance)),
-            Backward(distance) => self.done(given(7, Command::Backward, 60, distance)),
-            Ticks(ticks, coordinate, carriage, motor) => {
-                for _ in 1..ticks {
-                    self.done(Act::Tick)?;
-                }
-                let after = self.after(Act::Tick);
-                same(after == Some((Whole(coordinate), Whole(carriage), Whole(motor))))?;
-                print!(self.rt; " {coordinate}/{carriage}/{motor}")?;
-                Ok(())
+    // Whether the step comes out as told.
+    fn step(&mut self, step: Step) -> io::Result<bool> {
+        let act = match step {
+            To(speed, place) => start(6, speed, place),
+            Stop => given(6, Command::Stop, 0, 0),
+            Forward(distance) => given(7, Command::Forward, 60, distance),
+            Backward(distance) => given(7, Command::Backward, 60, distance),
+            Beyond(speed, place) => return Ok(self.is_beyond(start(6, speed, place))),
+            Ticks(ticks, places) => return self.ticks(ticks, places),
+        };
+        Ok(self.does(act))
+    }
+
+    fn ticks(&mut self, ticks: u32, places: Places) -> io::Result<bool> {
+        for _ in 1..ticks {
+            if !self.does(Act::Tick) {
+                return Ok(false);
             }
         }
+        let Some(after) = self.after(Act::Tick) else {
+            return Ok(false);
+        };
+        let (coordinate, carriage, motor) = after;
+        print!(self.rt; " {coordinate}/{carriage}/{motor}")?;
+        Ok(after == places)
     }
 
-    fn done(&mut self, act: Act) -> anyhow::Result<()> {
-        same(self.after(act).is_some())
+    fn does(&mut self, act: Act) -> bool {
+        self.after(act).is_some()
     }
 
-    /// Where coordinate, carriage and motor stand after an act; none where it is refused.
-    fn after(&mut self, act: Act) -> Option<(Whole, Whole, Whole)> {
+    // Where coordinate, carriage and motor stand after an act; none where it is refused.
+    fn after(&mut self, act: Act) -> Option<Places> {
         let axis = self.axis;
         let answers = self.sides.make(&Call::OnAxis { axis, act })?;
         let [first, second, _] = answers.sights;
@@ -203,22 +217,17 @@ impl Bench<'_> {
         let [_, motor, _] = answers.motors;
         match (answers.reply, axis) {
             (Err(_), _) => None,
-            (Ok(_), 1) => Some((first.coordinate, count, count)),
-            (Ok(_), _) => Some((second.coordinate, layer, motor)),
+            (Ok(_), 1) => Some((first.coordinate.0, count.0, count.0)),
+            (Ok(_), _) => Some((second.coordinate.0, layer.0, motor.0)),
         }
     }
 
-    fn beyond(&mut self, act: Act) -> anyhow::Result<()> {
+    fn is_beyond(&mut self, act: Act) -> bool {
         let axis = self.axis;
         let refused = Err(Trouble::at(19, axis, 0, 0));
         let answers = self.sides.make(&Call::OnAxis { axis, act });
-        same(matches!(answers, Some(answers) if answers.reply == refused))
+        matches!(answers, Some(answers) if answers.reply == refused)
     }
-}
-
-fn same(holds: bool) -> anyhow::Result<()> {
-    ensure!(holds, "an example comes out otherwise");
-    Ok(())
 }
 
 fn start(mode: u8, word: u16, double: i32) -> Act {
@@ -235,58 +244,73 @@ fn given(mode: u8, command: Command, word: u16, double: i32) -> Act {
     })
 }
 
-/// Every worked example, with what it comes out at.
-pub fn work(rt: &HostRuntime, tally: &mut Tally) -> anyhow::Result<()> {
-    ramp(rt)?;
+/// Works every example, and tells whether each comes out as told.
+pub fn work(rt: &HostRuntime, tally: &mut Tally) -> io::Result<bool> {
+    let mut holds = ramp(rt)?;
     for example in EXAMPLES.iter() {
-        work_one(rt, example)?;
+        holds &= work_one(rt, example)?;
     }
-    feedback(rt, &mut Sides::new(rt, BUILD, Tally::new())?)?;
-    work_one(rt, &LIMIT)?;
-    not_made(rt, tally)?;
+    holds &= feedback(rt)?;
+    holds &= work_one(rt, &LIMIT)?;
+    holds &= not_made(rt, tally)?;
     println!(rt; "")?;
-    Ok(())
+    Ok(holds)
 }
 
-fn work_one(rt: &HostRuntime, example: &Example) -> anyhow::Result<()> {
+fn work_one(rt: &HostRuntime, example: &Example) -> io::Result<bool> {
     print!(rt; "{}", example.title)?;
-    let mut bench = Bench {
-        rt,
-        sides: Sides::new(rt, BUILD, Tally::new())?,
-        axis: example.axis,
+    let Some(sides) = Sides::new(rt, BUILD, Tally::new()) else {
+        return Ok(false);
     };
-    bench.work(example)
+    let axis = example.axis;
+    Bench { rt, sides, axis }.work(example)
 }
 
-fn ramp(rt: &HostRuntime) -> anyhow::Result<()> {
+fn ramp(rt: &HostRuntime) -> io::Result<bool> {
     let Ok(data) = Data::checked(AXIS_A) else {
-        return Err(anyhow!("the data of axis A are refused"));
+        return Ok(false);
     };
     print!(rt; "ramp")?;
-    for (i, frequency) in (1u32..).zip(FREQUENCIES.iter()) {
-        same(data.run_up(data.greatest_rate, i).0 == Whole(*frequency))?;
-        print!(rt; " {frequency}")?;
+    let mut holds = true;
+    for (i, told) in (1u32..).zip(FREQUENCIES.iter()) {
+        let (frequency, _) = data.run_up(data.greatest_rate, i);
+        print!(rt; " {}", frequency.0)?;
+        holds &= frequency.0 == *told;
     }
-    Ok(())
+    Ok(holds)
 }
 
 static FREQUENCIES: [i128; 6] = [
     1_000_000, 2_000_000, 2_525_000, 2_800_625, 2_945_328, 3_000_000,
 ];
 
-fn feedback(rt: &HostRuntime, sides: &mut Sides) -> anyhow::Result<()> {
+fn feedback(rt: &HostRuntime) -> io::Result<bool> {
     print!(rt; "\nfeedback")?;
+    let Some(mut sides) = Sides::new(rt, BUILD, Tally::new()) else {
+        return Ok(false);
+    };
+    show(rt, &mut sides)
+}
+
+// The feedback bytes of a new axis, with machine data, and referenced.
+fn show(rt: &HostRuntime, sides: &mut Sides) -> io::Result<bool> {
     let steps = [
-        (Act::Observe, 0xE0u8),
+        (Act::Observe, 0xE0),
         (Act::Enter(AXIS_A), 0xA2),
         (start(5, 0, 0), 0x8E),
     ];
-    for (act, byte) in steps {
-        let answers = sides.make(&Call::OnAxis { axis: 1, act });
-        same(matches!(answers, Some(answers) if answers.sights[0].feedback == byte))?;
+    let mut holds = true;
+    for (act, told) in steps {
+        let byte = feedback_after(sides, act).unwrap_or(0);
         print!(rt; " {byte:02X}")?;
+        holds &= byte == told;
     }
-    Ok(())
+    Ok(holds)
+}
+
+fn feedback_after(sides: &mut Sides, act: Act) -> Option<u8> {
+    let [first, _, _] = sides.make(&Call::OnAxis { axis: 1, act })?.sights;
+    Some(first.feedback)
 }
 
 const LEAST: i64 = -1_000_000_000_000;
@@ -306,18 +330,19 @@ static DRIVES: [(i64, u16); 8] = [
 ];
 
 // The drives that fault 2 refuses: a stage outside its ends, a layer without room for its play.
-fn not_made(rt: &HostRuntime, tally: &mut Tally) -> anyhow::Result<()> {
+fn not_made(rt: &HostRuntime, tally: &mut Tally) -> io::Result<bool> {
     print!(rt; "\ndrives not made")?;
+    let mut holds = true;
     for (motor, play) in DRIVES.iter() {
         let number = making(*motor, *play);
-        let made = Stage::new(*motor, &[*play]).is_some();
-        same(number == if made { 0 } else { 2 })?;
-        if !made {
+        if number != 0 {
             print!(rt; " {motor}/{play}")?;
-            tally.count_fault(2);
+            tally.count_fault(number);
         }
+        let made = Stage::new(*motor, &[*play]).is_some();
+        holds &= number == if made { 0 } else { 2 };
     }
-    Ok(())
+    Ok(holds)
 }
 
 // The fault number of a layer over a stage, 0 where it is made.

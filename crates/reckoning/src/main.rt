@@ -27,6 +27,7 @@ use crate::script::Script;
 use crate::sides::{Build, Sides};
 use crate::tally::Tally;
 use anyhow::anyhow;
+use std::io;
 
 const CALLS: u32 = 10_000;
 
@@ -43,12 +44,19 @@ static BUILDS: [([i64; 3], u16, [u16; 2]); 8] = [
 ];
 
 fn main(rt: HostRuntime) -> anyhow::Result<()> {
-    run(&rt)
+    if run(&rt)? {
+        Ok(())
+    } else {
+        Err(anyhow!("the two sides differ, or an example comes out otherwise"))
+    }
 }
 
-fn run(rt: &HostRuntime) -> anyhow::Result<()> {
+// Whether every example comes out as told, and the two sides agree.
+fn run(rt: &HostRuntime) -> io::Result<bool> {
     let mut tally = Tally::new();
-    work(rt, &mut tally)?;
+    if !work(rt, &mut tally)? {
+        return Ok(false);
+    }
     println!(rt; "run  calls  differences")?;
     for (seed, (motors, play, plays)) in (1u32..).zip(BUILDS.iter()) {
         let build = Build {
@@ -56,29 +64,24 @@ fn run(rt: &HostRuntime) -> anyhow::Result<()> {
             play: *play,
             plays: *plays,
         };
-        let (calls, reached) = run_script(rt, seed, build, tally)?;
+        let Some((calls, reached)) = run_script(rt, seed, build, tally) else {
+            return Ok(false);
+        };
         println!(rt; "{seed:>3} {calls:>6} {:>12}", 0)?;
         tally = reached;
     }
-    tally.print(rt)
+    tally.print(rt)?;
+    Ok(true)
 }
 
-// The number of calls made, and what all runs so far have reached.
-fn run_script(
-    rt: &HostRuntime,
-    seed: u32,
-    build: Build,
-    tally: Tally,
-) -> anyhow::Result<(u32, Tally)> {
+// The number of calls made, and what all runs so far have reached; none where the two sides differ.
+fn run_script(rt: &HostRuntime, seed: u32, build: Build, tally: Tally) -> Option<(u32, Tally)> {
     let mut script = Script {
         chance: Chance::new(u64::from(seed)),
         sides: Sides::new(rt, build, tally)?,
         calls: CALLS,
     };
     script.run();
-    if script.sides.agree {
-        Ok((script.sides.calls, script.sides.tally))
-    } else {
-        Err(anyhow!("the two sides differ"))
-    }
+    let sides = &script.sides;
+    sides.agree.then_some((sides.calls, sides.tally))
 }

@@ -5,12 +5,12 @@ use crate::stage::Stage;
 use crate::tally::Tally;
 use crate::trouble::Trouble;
 use crate::whole::Whole;
-use anyhow::anyhow;
 use drives::clock_stage::ClockStage;
 use drives::drive::Drive;
 use drives::take_up::TakeUp;
 use module::{Answer, Call, Drives, Module};
 use states::Observation;
+use std::io;
 
 type Screw = TakeUp<ClockStage>;
 
@@ -48,17 +48,12 @@ pub struct Sides<'a> {
 
 impl<'a> Sides<'a> {
     /// A new module on both sides, with what earlier runs have reached.
-    pub fn new(rt: &'a HostRuntime, build: Build, tally: Tally) -> anyhow::Result<Sides<'a>> {
-        let (Some(drives), Some(plant)) = (core_drives(build), plain_drives(build)) else {
-            return Err(anyhow!("a drive is refused"));
-        };
-        let Ok(core) = Module::new(rt.alloc(), drives) else {
-            return Err(anyhow!("there is no memory for a module"));
-        };
-        Ok(Sides {
+    /// None where a drive is refused, or there is no memory.
+    pub fn new(rt: &'a HostRuntime, build: Build, tally: Tally) -> Option<Sides<'a>> {
+        Some(Sides {
             rt,
-            core,
-            plant,
+            core: Module::new(rt.alloc(), core_drives(build)?).ok()?,
+            plant: plain_drives(build)?,
             calls: 0,
             tally,
             agree: true,
@@ -85,11 +80,10 @@ impl<'a> Sides<'a> {
         Some(core)
     }
 
-    fn tell(&self, call: &Call, core: &Answers, plain: &Answers) -> anyhow::Result<()> {
+    fn tell(&self, call: &Call, core: &Answers, plain: &Answers) -> io::Result<()> {
         let calls = self.calls;
         let shown = Shown(call);
-        println!(self.rt; "call {calls}: {shown}\nmodule: {core:?}\nsecond: {plain:?}")?;
-        Ok(())
+        println!(self.rt; "call {calls}: {shown}\nmodule: {core:?}\nsecond: {plain:?}")
     }
 
     fn ask_core(&mut self, call: &Call) -> Answers {

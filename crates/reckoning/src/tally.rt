@@ -1,6 +1,7 @@
 use crate::plant::{Course, Reply};
 use module::{Act, Call};
 use states::Command;
+use std::io;
 
 /// What the runs have reached.
 #[derive(Clone, Copy)]
@@ -76,7 +77,7 @@ impl Tally {
         }
     }
 
-    pub fn print(&self, rt: &HostRuntime) -> anyhow::Result<()> {
+    pub fn print(&self, rt: &HostRuntime) -> io::Result<()> {
         println!(rt; "mode accepted")?;
         for (mode, accepted) in self.orders.iter().enumerate() {
             if *accepted > 0 {
