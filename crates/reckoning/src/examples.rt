@@ -17,6 +17,11 @@ type Places = (i128, i128, i128);
 /// A step of an example.
 #[derive(Clone, Copy)]
 enum Step {
+    /// the drive ready, the switches free
+    Ready,
+    /// machine data of axis A with so many units and pulses of a turn
+    Enter(u32, u32),
+    Reference,
     /// an order of mode 6: speed and coordinate
     To(u16, i32),
     /// an order of mode 6 that 19 refuses
@@ -27,26 +32,28 @@ enum Step {
     Backward(i32),
     /// so many ticks, and what stands after the last
     Ticks(u32, Places),
+    /// what observing shows as feedback
+    Feedback(u8),
 }
 
-use Step::{Backward, Beyond, Forward, Stop, Ticks, To};
+use Step::{Backward, Beyond, Enter, Feedback, Forward, Ready, Reference, Stop, Ticks, To};
 
-/// Steps of one axis of a new module with the data of axis A, but for its turn.
+/// Steps of one axis of a new module.
 #[derive(Clone, Copy)]
 struct Example {
     title: &'static str,
     axis: u8,
-    /// units and pulses
-    turn: (u32, u32),
     steps: &'static [Step],
 }
 
-static EXAMPLES: [Example; 9] = [
+static EXAMPLES: [Example; 11] = [
     Example {
         title: "\n0 to 100",
         axis: 1,
-        turn: (4_000, 400),
         steps: &[
+            Ready,
+            Enter(4_000, 400),
+            Reference,
             To(1_800, 100),
             Ticks(1, (10, 1, 1)),
             Ticks(1, (30, 3, 3)),
@@ -60,8 +67,10 @@ static EXAMPLES: [Example; 9] = [
     Example {
         title: "\nstopped",
         axis: 1,
-        turn: (4_000, 400),
         steps: &[
+            Ready,
+            Enter(4_000, 400),
+            Reference,
             To(1_800, 100),
             Ticks(1, (10, 1, 1)),
             Ticks(1, (30, 3, 3)),
@@ -76,8 +85,10 @@ static EXAMPLES: [Example; 9] = [
     Example {
         title: "\nthree moves by 5",
         axis: 1,
-        turn: (1_000, 300),
         steps: &[
+            Ready,
+            Enter(1_000, 300),
+            Reference,
             Forward(5),
             Ticks(13, (5, 2, 2)),
             Forward(5),
@@ -89,39 +100,66 @@ static EXAMPLES: [Example; 9] = [
     Example {
         title: "\npulses of 5, 4, -5",
         axis: 1,
-        turn: (10, 1),
-        steps: &[To(60, 5), Ticks(13, (5, 1, 1))],
+        steps: &[
+            Ready,
+            Enter(10, 1),
+            Reference,
+            To(60, 5),
+            Ticks(13, (5, 1, 1)),
+        ],
     },
     Example {
         title: "",
         axis: 1,
-        turn: (10, 1),
-        steps: &[To(60, 4), Ticks(13, (4, 0, 0))],
+        steps: &[
+            Ready,
+            Enter(10, 1),
+            Reference,
+            To(60, 4),
+            Ticks(13, (4, 0, 0)),
+        ],
     },
     Example {
         title: "",
         axis: 1,
-        turn: (10, 1),
-        steps: &[To(60, -5), Ticks(13, (-5, 0, 0))],
+        steps: &[
+            Ready,
+            Enter(10, 1),
+            Reference,
+            To(60, -5),
+            Ticks(13, (-5, 0, 0)),
+        ],
     },
     Example {
         title: "\nunit nearest to 5, -5",
         axis: 1,
-        turn: (3, 10),
-        steps: &[To(54, 30), Ticks(3, (2, 5, 5))],
+        steps: &[
+            Ready,
+            Enter(3, 10),
+            Reference,
+            To(54, 30),
+            Ticks(3, (2, 5, 5)),
+        ],
     },
     Example {
         title: "",
         axis: 1,
-        turn: (3, 10),
-        steps: &[To(54, -30), Ticks(3, (-1, -5, -5))],
+        steps: &[
+            Ready,
+            Enter(3, 10),
+            Reference,
+            To(54, -30),
+            Ticks(3, (-1, -5, -5)),
+        ],
     },
     // The second axis has a play of 3 below its carriage.
     Example {
         title: "\nplay 3",
         axis: 2,
-        turn: (1, 1),
         steps: &[
+            Ready,
+            Enter(1, 1),
+            Reference,
             Forward(1),
             Ticks(13, (1, 1, 1)),
             Forward(1),
@@ -132,14 +170,29 @@ static EXAMPLES: [Example; 9] = [
             Ticks(13, (2, 2, 2)),
         ],
     },
+    Example {
+        title: "\nfeedback",
+        axis: 1,
+        steps: &[
+            Feedback(0xE0),
+            Enter(4_000, 400),
+            Feedback(0xA2),
+            Reference,
+            Feedback(0x8E),
+        ],
+    },
+    Example {
+        title: "\nlimit 200001 refused with 19, 200000 accepted",
+        axis: 1,
+        steps: &[
+            Ready,
+            Enter(4_000, 400),
+            Reference,
+            Beyond(1_800, 200_001),
+            To(1_800, 200_000),
+        ],
+    },
 ];
-
-static LIMIT: Example = Example {
-    title: "\nlimit 200001 refused with 19, 200000 accepted",
-    axis: 1,
-    turn: (4_000, 400),
-    steps: &[Beyond(1_800, 200_001), To(1_800, 200_000)],
-};
 
 // Beside a carriage on its motor one with a play of 3.
 const BUILD: Build = Build {
@@ -157,35 +210,27 @@ struct Bench<'a> {
 }
 
 impl Bench<'_> {
-    // The drive ready, the data entered, and a reference; then the steps.
-    fn work(&mut self, example: &Example) -> io::Result<bool> {
-        let mut holds = self.set_up(example.turn);
-        for step in example.steps {
+    fn work(&mut self, steps: &[Step]) -> io::Result<bool> {
+        let mut holds = true;
+        for step in steps {
             holds &= self.step(*step)?;
         }
         Ok(holds)
     }
 
-    fn set_up(&mut self, turn: (u32, u32)) -> bool {
-        let (units, pulses) = turn;
-        let levels = Levels {
-            switches: Switches::default(),
-            ready: true,
-        };
-        self.does(Act::Level(levels))
-            && self.does(Act::Enter(turned(units, pulses)))
-            && self.does(start(5, 0, 0))
-    }
-
     // Whether the step comes out as told.
     fn step(&mut self, step: Step) -> io::Result<bool> {
         let act = match step {
+            Ready => READY,
+            Enter(units, pulses) => Act::Enter(turned(units, pulses)),
+            Reference => start(5, 0, 0),
             To(speed, place) => start(6, speed, place),
             Stop => given(6, Command::Stop, 0, 0),
             Forward(distance) => given(7, Command::Forward, 60, distance),
             Backward(distance) => given(7, Command::Backward, 60, distance),
             Beyond(speed, place) => return Ok(self.is_beyond(start(6, speed, place))),
             Ticks(ticks, places) => return self.ticks(ticks, places),
+            Feedback(byte) => return self.feedback(byte),
         };
         Ok(self.does(act))
     }
@@ -228,7 +273,28 @@ impl Bench<'_> {
         let answers = self.sides.make(&Call::OnAxis { axis, act });
         matches!(answers, Some(answers) if answers.reply == refused)
     }
+
+    fn feedback(&mut self, told: u8) -> io::Result<bool> {
+        let axis = self.axis;
+        let act = Act::Observe;
+        let Some(answers) = self.sides.make(&Call::OnAxis { axis, act }) else {
+            return Ok(false);
+        };
+        let Ok(Some(sight)) = answers.reply else {
+            return Ok(false);
+        };
+        print!(self.rt; " {:02X}", sight.feedback)?;
+        Ok(sight.feedback == told)
+    }
 }
+
+const READY: Act = Act::Level(Levels {
+    switches: Switches {
+        begin: false,
+        end: false,
+    },
+    ready: true,
+});
 
 fn start(mode: u8, word: u16, double: i32) -> Act {
     given(mode, Command::Start, word, double)
@@ -250,8 +316,6 @@ pub fn work(rt: &HostRuntime, tally: &mut Tally) -> io::Result<bool> {
     for example in EXAMPLES.iter() {
         holds &= work_one(rt, example)?;
     }
-    holds &= feedback(rt)?;
-    holds &= work_one(rt, &LIMIT)?;
     holds &= not_made(rt, tally)?;
     println!(rt; "")?;
     Ok(holds)
@@ -263,7 +327,7 @@ fn work_one(rt: &HostRuntime, example: &Example) -> io::Result<bool> {
         return Ok(false);
     };
     let axis = example.axis;
-    Bench { rt, sides, axis }.work(example)
+    Bench { rt, sides, axis }.work(example.steps)
 }
 
 fn ramp(rt: &HostRuntime) -> io::Result<bool> {
@@ -283,35 +347,6 @@ fn ramp(rt: &HostRuntime) -> io::Result<bool> {
 static FREQUENCIES: [i128; 6] = [
     1_000_000, 2_000_000, 2_525_000, 2_800_625, 2_945_328, 3_000_000,
 ];
-
-fn feedback(rt: &HostRuntime) -> io::Result<bool> {
-    print!(rt; "\nfeedback")?;
-    let Some(mut sides) = Sides::new(rt, BUILD, Tally::new()) else {
-        return Ok(false);
-    };
-    show(rt, &mut sides)
-}
-
-// The feedback bytes of a new axis, with machine data, and referenced.
-fn show(rt: &HostRuntime, sides: &mut Sides) -> io::Result<bool> {
-    let steps = [
-        (Act::Observe, 0xE0),
-        (Act::Enter(AXIS_A), 0xA2),
-        (start(5, 0, 0), 0x8E),
-    ];
-    let mut holds = true;
-    for (act, told) in steps {
-        let byte = feedback_after(sides, act).unwrap_or(0);
-        print!(rt; " {byte:02X}")?;
-        holds &= byte == told;
-    }
-    Ok(holds)
-}
-
-fn feedback_after(sides: &mut Sides, act: Act) -> Option<u8> {
-    let [first, _, _] = sides.make(&Call::OnAxis { axis: 1, act })?.sights;
-    Some(first.feedback)
-}
 
 const LEAST: i64 = -1_000_000_000_000;
 

@@ -12,7 +12,11 @@ pub struct Program {
 
 impl Program {
     fn block(&self, index: usize) -> Option<Block> {
-        self.blocks.get(0..self.count)?.get(index).copied()
+        if index < self.count {
+            self.blocks.get(index).copied()
+        } else {
+            None
+        }
     }
 
     fn add(&mut self, block: Block) {
