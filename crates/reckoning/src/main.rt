@@ -47,11 +47,11 @@ fn main(rt: HostRuntime) -> anyhow::Result<()> {
     if run(&rt)? {
         Ok(())
     } else {
-        Err(anyhow!("the two sides differ, or an example comes out otherwise"))
+        Err(anyhow!("an example comes out otherwise, or the two sides differ or cannot be made"))
     }
 }
 
-// Whether every example comes out as told, and the two sides agree.
+// Whether every example comes out as told, and the two sides agree in each run.
 fn run(rt: &HostRuntime) -> io::Result<bool> {
     let mut tally = Tally::new();
     if !work(rt, &mut tally)? {
@@ -74,7 +74,8 @@ fn run(rt: &HostRuntime) -> io::Result<bool> {
     Ok(true)
 }
 
-// The number of calls made, and what all runs so far have reached; none where the two sides differ.
+// The number of calls made, and what all runs so far have reached.
+// None where the two sides differ or cannot be made.
 fn run_script(rt: &HostRuntime, seed: u32, build: Build, tally: Tally) -> Option<(u32, Tally)> {
     let mut script = Script {
         chance: Chance::new(u64::from(seed)),

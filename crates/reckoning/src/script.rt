@@ -27,7 +27,8 @@ impl Script<'_> {
         }
     }
 
-    /// Whether the call is accepted. After the last call of the run, or a difference, no more are made, and none is accepted.
+    /// Whether the call is accepted.
+    /// After the last call of the run, or a difference, no more are made, and none is accepted.
     pub fn make(&mut self, call: &Call) -> bool {
         if self.sides.calls >= self.calls {
             return false;
