@@ -3,7 +3,8 @@
 
 #[cfg(test)]
 mod tests {
-    use reader::read_line;
+    use reader::{LineFault, read_line};
+    use std::process::Abort;
     use std::test::Fail;
     use store::{Store, StoreFault};
     use units::Measure;
@@ -17,6 +18,9 @@ mod tests {
         Delete(u8),
     }
 
+    // A call, and the number that it is answered.
+    type Row = (Act, Option<u8>);
+
     // The number of a fault.
     fn number_of(r: Result<(), StoreFault>) -> Option<u8> {
         r.err().map(|fault| fault.number())
@@ -24,7 +28,7 @@ mod tests {
 
     fn answer(store: &mut Store, act: Act) -> Option<u8> {
         match act {
-            Act::Open(number) => number_of(store.open_number(number, Measure::Millimetre)),
+            Act::Open(number) => number_of(store.open_number(number, Measure::Inch)),
             Act::Add(number, line) => number_of(store.add_line(number, line)),
             Act::Close(number) => number_of(store.close_number(number)),
             Act::Abandon(number) => number_of(store.abandon_number(number)),
@@ -33,7 +37,7 @@ mod tests {
     }
 
     // Every number of the store and of a line, and what each leaves.
-    const CALLS: [(Act, Option<u8>); 44] = [
+    const CALLS: &[Row] = &[
         (Act::Delete(1), Some(14)),
         (Act::Open(0), Some(26)),
         (Act::Add(1, b"X1"), Some(30)),
@@ -80,14 +84,18 @@ mod tests {
         (Act::Delete(1), None),
     ];
 
+    fn run(rt: &impl Abort, store: &mut Store, rows: &[Row]) {
+        for (row, (act, number)) in rows.iter().enumerate() {
+            assert_eq!(rt; answer(store, *act), *number, "row {row}");
+        }
+    }
+
     #[test]
     fn every_number(rt: HostRuntime) -> Result<(), Fail> {
         let mut store = Store::new(rt.alloc())?;
-        for (act, number) in &CALLS {
-            assert_eq!(rt; answer(&mut store, *act), *number);
-        }
-        assert_eq!(rt; store.measure_of(1), None);
-        assert_eq!(rt; store.measure_of(2), Some(Measure::Millimetre));
+        run(&rt, &mut store, CALLS);
+        let measures = [store.measure_of(1), store.measure_of(2)];
+        assert_eq!(rt; measures, [None, Some(Measure::Inch)]);
         Ok(())
     }
 
@@ -95,34 +103,57 @@ mod tests {
 
     const LAST: &[u8] = b"X0 M30";
 
-    // Sixteen programs of 64 blocks; then there is room neither for a block nor for a program.
+    // A program of 64 blocks; then there is no room for a line.
+    fn fill(rt: &impl Abort, store: &mut Store, number: u8) {
+        run(rt, store, &[(Act::Open(number), None)]);
+        for _ in 0..63 {
+            run(rt, store, &[(Act::Add(number, LINE), None)]);
+        }
+        run(
+            rt,
+            store,
+            &[
+                (Act::Add(number, LAST), None),
+                (Act::Add(number, LINE), Some(31)),
+                (Act::Add(number, b""), Some(31)),
+                (Act::Close(number), None),
+            ],
+        );
+    }
+
+    fn is_full(rt: &impl Abort, store: &Store, number: u8) -> Result<(), LineFault> {
+        let line = read_line(LINE, Measure::Inch, 0)?;
+        let last = read_line(LAST, Measure::Inch, 63)?;
+        for k in 0usize..65 {
+            let block = match k {
+                63 => last,
+                64 => None,
+                _ => line,
+            };
+            assert_eq!(rt; store.block(number, k), block, "block {k} of {number}");
+        }
+        assert_eq!(rt; store.measure_of(number), Some(Measure::Inch), "{number}");
+        Ok(())
+    }
+
+    // Room for one program more only where one is deleted.
+    const FULL: &[Row] = &[
+        (Act::Open(17), Some(28)),
+        (Act::Delete(9), None),
+        (Act::Open(17), None),
+        (Act::Abandon(17), None),
+    ];
+
     #[test]
     fn sixteen_of_sixty_four(rt: HostRuntime) -> Result<(), Fail> {
         let mut store = Store::new(rt.alloc())?;
         for number in 1u8..17 {
-            assert_eq!(rt; number_of(store.open_number(number, Measure::Inch)), None);
-            for _ in 0..63 {
-                assert_eq!(rt; number_of(store.add_line(number, LINE)), None);
-            }
-            assert_eq!(rt; number_of(store.add_line(number, LAST)), None);
-            assert_eq!(rt; number_of(store.add_line(number, LINE)), Some(31));
-            assert_eq!(rt; number_of(store.add_line(number, b"")), Some(31));
-            assert_eq!(rt; number_of(store.close_number(number)), None);
+            fill(&rt, &mut store, number);
         }
-        assert_eq!(rt; number_of(store.open_number(17, Measure::Inch)), Some(28));
-        let line = read_line(LINE, Measure::Inch, 0)?;
-        let last = read_line(LAST, Measure::Inch, 63)?;
         for number in 1u8..17 {
-            assert_eq!(rt; store.measure_of(number), Some(Measure::Inch));
-            for k in 0usize..63 {
-                assert_eq!(rt; store.block(number, k), line);
-            }
-            assert_eq!(rt; store.block(number, 63), last);
-            assert_eq!(rt; store.block(number, 64), None);
+            is_full(&rt, &store, number)?;
         }
-        assert_eq!(rt; number_of(store.delete(9)), None);
-        assert_eq!(rt; number_of(store.open_number(17, Measure::Inch)), None);
-        assert_eq!(rt; number_of(store.abandon_number(17)), None);
+        run(&rt, &mut store, FULL);
         Ok(())
     }
 }
