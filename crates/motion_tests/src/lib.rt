@@ -146,8 +146,12 @@ mod tests {
         for (offsets, fault) in table {
             assert_eq!(rt; answer(RawData { offsets, ..AXIS }), fault);
         }
-        assert_eq!(rt; DataFault::OutOfRange.number(), 4);
-        assert_eq!(rt; DataFault::Disagree.number(), 5);
+    }
+
+    #[test]
+    fn numbers(rt: HostRuntime) {
+        let faults = [DataFault::OutOfRange, DataFault::Disagree];
+        assert_eq!(rt; faults.map(|fault| fault.number()), [4, 5]);
     }
 
     #[test]
@@ -377,8 +381,8 @@ mod tests {
                 pulses,
                 ..AXIS
             })?;
-            assert_eq!(rt; machine.pulses_of(coordinate), of_coordinate);
-            assert_eq!(rt; machine.nearest_to(n), nearest);
+            let found = (machine.pulses_of(coordinate), machine.nearest_to(n));
+            assert!(rt; found == (of_coordinate, nearest), "{coordinate} {n}");
         }
         Ok(())
     }
@@ -526,27 +530,24 @@ mod tests {
 
     #[test]
     fn stops(rt: HostRuntime) -> Result<(), Fail> {
-        assert_eq!(rt; stopped(3_000_000, 10)?, [1, 2, 2, 2, 1, 0]);
-        // the longest distances there are
-        assert_eq!(rt;
-            stopped(3_000_000, 9_223_372_036_854_775_807)?,
-            [1, 2, 2, 2, 1, 0]
-        );
-        assert_eq!(rt;
-            stopped(3_000_000, -9_223_372_036_854_775_808)?,
-            [1, 2, 2, 2, 1, 0]
-        );
-        // without a move the first braking tick stands
+        // the longest distances there are among them
+        for distance in [10, i64::MAX, i64::MIN] {
+            assert_eq!(rt; stopped(3_000_000, distance)?, [1, 2, 2, 2, 1, 0]);
+        }
+        Ok(())
+    }
+
+    // Without a move the first braking tick stands.
+    #[test]
+    fn standing(rt: HostRuntime) -> Result<(), Fail> {
         let mut mover = Mover::new(MachineData::try_from(AXIS)?);
         let standing = Passed {
             pulses: 0,
             ended: true,
         };
-        assert_eq!(rt; mover.brake(), standing);
-        assert_eq!(rt; Passed::STANDING, standing);
+        assert_eq!(rt; [mover.brake(), Passed::STANDING], [standing; 2]);
         mover.begin(3_000_000, 10);
-        assert_eq!(rt; mover.step(), 0);
-        assert!(rt; mover.brake().ended);
+        assert!(rt; mover.step() == 0 && mover.brake().ended);
         Ok(())
     }
 }
