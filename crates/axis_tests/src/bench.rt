@@ -7,6 +7,7 @@ use drives::drive::Drive;
 use motion::RawData;
 use states::{AxisFault, Command, Layer, Observation, Switches};
 use std::alloc::Global;
+use std::fmt::Debug;
 use std::process::Abort;
 use std::test::Fail;
 use store::{Store, StoreFault};
@@ -140,38 +141,97 @@ impl Bench {
         Shows(mode, m, o.coordinate, o.shift, o.rest, o.feedback, count)
     }
 
-    pub(crate) fn act(
+    fn seen(&self) -> Seen {
+        Seen {
+            axis: self.axis.observe(),
+            count: self.axis.drive().count(),
+        }
+    }
+
+    pub(crate) fn act(&mut self, rt: &impl Abort, at: (usize, usize), act: Act, answer: Answer) {
+        let before = self.seen();
+        same(rt, at, "fault of the store", self.keep(act).err(), None);
+        let fault = self.ask(act).err();
+        check_answer(rt, at, fault, answer);
+        let kept = leaves_all(act, fault);
+        let left = left_by(act, fault, before.axis.fault);
+        check_left(rt, at, before.left(left), self.seen(), kept);
+    }
+
+    pub(crate) fn row(
         &mut self,
         rt: &impl Abort,
         at: (usize, usize),
-        act: Act,
+        acts: &[Act],
         answer: Answer,
-    ) -> Result<(), StoreFault> {
-        let (before, count) = (self.axis.observe(), self.axis.drive().count());
-        self.keep(act)?;
-        let fault = self.ask(act).err();
-        let wanted = match answer {
-            Shows(..) => Done,
-            answer => answer,
-        };
-        assert_eq!(rt; answered(fault, wanted), wanted, "at {at:?}");
-        if let Some(f) = fault {
-            assert_eq!(rt; f.cause.layer(), layer_of(f.cause.number()), "at {at:?}");
+    ) {
+        for act in acts {
+            self.act(rt, at, *act, answer);
         }
-        let after = self.axis.observe();
-        let left = Observation {
-            fault: left_by(act, fault, before.fault),
-            ..before
-        };
-        assert_eq!(rt; after.fault, left.fault, "at {at:?}");
-        if leaves_all(act, fault) {
-            assert_eq!(rt; after, left, "at {at:?}");
-            assert_eq!(rt; self.axis.drive().count(), count, "at {at:?}");
+        if matches!(answer, Shows(..)) {
+            same(rt, at, "what the axis shows", self.shown(), answer);
         }
-        let actual = i64::from(after.coordinate).checked_sub(after.shift);
-        assert_eq!(rt; Some(after.actual), actual, "at {at:?}");
-        Ok(())
     }
+
+    fn rows(&mut self, rt: &impl Abort, table: usize, rows: &[Row]) {
+        for (row, (acts, answer)) in rows.iter().enumerate() {
+            self.row(rt, (table, row), acts, *answer);
+        }
+    }
+}
+
+// What is seen of an axis and of its drive.
+#[derive(Clone, Copy)]
+struct Seen {
+    axis: Observation,
+    count: i64,
+}
+
+impl Seen {
+    // The same but for the fault.
+    fn left(self, fault: Option<AxisFault>) -> Seen {
+        let axis = Observation { fault, ..self.axis };
+        Seen { axis, ..self }
+    }
+}
+
+// A failure names what differs, its table and its row.
+fn same<T: Copy + PartialEq + Debug>(
+    rt: &impl Abort,
+    at: (usize, usize),
+    what: &str,
+    is: T,
+    wanted: T,
+) {
+    assert_eq!(rt; is, wanted, "{what} at {at:?}");
+}
+
+fn check_answer(rt: &impl Abort, at: (usize, usize), fault: Option<AxisFault>, answer: Answer) {
+    let wanted = match answer {
+        Shows(..) => Done,
+        answer => answer,
+    };
+    same(rt, at, "answer", answered(fault, wanted), wanted);
+    if let Some(f) = fault {
+        same(rt, at, "layer", f.cause.layer(), layer_of(f.cause.number()));
+    }
+}
+
+// What an act leaves; where it leaves all, nothing but the fault differs.
+fn check_left(rt: &impl Abort, at: (usize, usize), left: Seen, after: Seen, all: bool) {
+    same(rt, at, "fault", after.axis.fault, left.axis.fault);
+    if all {
+        same(rt, at, "observation", after.axis, left.axis);
+        same(rt, at, "count", after.count, left.count);
+    }
+    let actual = i64::from(after.axis.coordinate).checked_sub(after.axis.shift);
+    same(
+        rt,
+        at,
+        "coordinate less shift",
+        Some(after.axis.actual),
+        actual,
+    );
 }
 
 // The layer of a fault of an axis.
@@ -227,17 +287,15 @@ const AXIS_A: RawData = RawData {
 };
 
 // All tables on one axis. A failure names its table and its row, from 0.
-pub(crate) fn run(rt: &impl Abort, mut bench: Bench, tables: &[&[Row]]) -> Result<(), Fail> {
+pub(crate) fn run(
+    rt: &impl Abort,
+    heap: Global,
+    count: i64,
+    tables: &[&[Row]],
+) -> Result<(), Fail> {
+    let mut bench = Bench::new(heap, count)?;
     for (table, rows) in tables.iter().enumerate() {
-        for (row, (acts, answer)) in rows.iter().enumerate() {
-            let at = (table, row);
-            for act in *acts {
-                bench.act(rt, at, *act, *answer)?;
-            }
-            if matches!(answer, Shows(..)) {
-                assert_eq!(rt; bench.shown(), *answer, "at {at:?}");
-            }
-        }
+        bench.rows(rt, table, rows);
     }
     Ok(())
 }

@@ -10,33 +10,44 @@ mod tables;
 mod tests {
     use crate::bench::Act::{Halt, Order, Ticks, To};
     use crate::bench::Answer::Done;
-    use crate::bench::{Bench, run};
+    use crate::bench::{Act, Answer, Bench, run};
     use crate::tables::*;
     use drives::clock_stage::FARTHEST;
     use states::Command::{Backward, Forward, Start, Stop, TakeOver};
+    use std::process::Abort;
     use std::test::Fail;
+
+    // An order to an axis that is set in motion, and again while it brakes.
+    fn ask_moving(
+        rt: &impl Abort,
+        axis: &mut Bench,
+        at: (usize, usize),
+        order: Act,
+        moving: Answer,
+        braking: Answer,
+    ) {
+        axis.act(rt, at, To(100), Done);
+        axis.act(rt, at, order, moving);
+        if moving == braking {
+            axis.act(rt, at, Halt(6), Done);
+        }
+        axis.act(rt, at, order, braking);
+        axis.act(rt, at, Ticks(1), Done);
+    }
 
     // Every mode and command to a new axis, to one in motion and to one that brakes.
     #[test]
     fn modes_and_commands(rt: HostRuntime) -> Result<(), Fail> {
         let mut new = Bench::new(rt.alloc(), 0)?;
         let mut busy = Bench::new(rt.alloc(), 0)?;
-        for act in [AXIS, READY, REFERENCE] {
-            busy.act(&rt, (0, 0), act, Done)?;
-        }
+        busy.row(&rt, (0, 0), &[AXIS, READY, REFERENCE], Done);
         for mode in 0..=u8::MAX {
             let commands = [Start, Stop, Forward, Backward, TakeOver];
             for (k, command) in commands.iter().enumerate() {
-                let (at, act) = ((mode.into(), k), Order(mode, *command, 0, 0));
+                let (at, order) = ((mode.into(), k), Order(mode, *command, 0, 0));
                 let (first, moving, braking) = answers(mode, *command);
-                new.act(&rt, at, act, first)?;
-                busy.act(&rt, at, To(100), Done)?;
-                busy.act(&rt, at, act, moving)?;
-                if moving == braking {
-                    busy.act(&rt, at, Halt(6), Done)?;
-                }
-                busy.act(&rt, at, act, braking)?;
-                busy.act(&rt, at, Ticks(1), Done)?;
+                new.act(&rt, at, order, first);
+                ask_moving(&rt, &mut busy, at, order, moving, braking);
             }
         }
         Ok(())
@@ -44,33 +55,32 @@ mod tests {
 
     #[test]
     fn questions(rt: HostRuntime) -> Result<(), Fail> {
-        run(&rt, Bench::new(rt.alloc(), 500)?, &[ASKED])?;
-        run(&rt, Bench::new(rt.alloc(), 500)?, &[HOME, SHIFTS])?;
-        run(&rt, Bench::new(rt.alloc(), 500)?, &[HOME, BUSY])?;
-        run(&rt, Bench::new(rt.alloc(), FARTHEST - 5)?, &[NEAR_END])?;
-        run(&rt, Bench::new(rt.alloc(), -FARTHEST)?, &[AT_LEAST])
+        run(&rt, rt.alloc(), 500, &[ASKED])?;
+        run(&rt, rt.alloc(), 500, &[HOME, SHIFTS])?;
+        run(&rt, rt.alloc(), 500, &[HOME, BUSY])?;
+        run(&rt, rt.alloc(), FARTHEST - 5, &[NEAR_END])?;
+        run(&rt, rt.alloc(), -FARTHEST, &[AT_LEAST])
     }
 
     #[test]
     fn moves(rt: HostRuntime) -> Result<(), Fail> {
-        run(&rt, Bench::new(rt.alloc(), 500)?, &[HOME, WORKED])?;
-        run(&rt, Bench::new(rt.alloc(), 500)?, &[HOME, STOPPED])?;
-        run(&rt, Bench::new(rt.alloc(), 500)?, &[HOME, BY_FIVE])
+        run(&rt, rt.alloc(), 500, &[HOME, WORKED])?;
+        run(&rt, rt.alloc(), 500, &[HOME, STOPPED])?;
+        run(&rt, rt.alloc(), 500, &[HOME, BY_FIVE])
     }
 
     #[test]
     fn programs(rt: HostRuntime) -> Result<(), Fail> {
-        run(&rt, Bench::new(rt.alloc(), 500)?, &[HOME, PROGRAMS])
+        run(&rt, rt.alloc(), 500, &[HOME, PROGRAMS])
     }
 
     #[test]
     fn faults_of_ticks(rt: HostRuntime) -> Result<(), Fail> {
-        let bench = Bench::new(rt.alloc(), 500)?;
-        run(&rt, bench, &[HOME, TROUBLE, TROUBLE_IN_PROGRAM])
+        run(&rt, rt.alloc(), 500, &[HOME, TROUBLE, TROUBLE_IN_PROGRAM])
     }
 
     #[test]
     fn machine_data(rt: HostRuntime) -> Result<(), Fail> {
-        run(&rt, Bench::new(rt.alloc(), 500)?, &[DATA])
+        run(&rt, rt.alloc(), 500, &[DATA])
     }
 }
