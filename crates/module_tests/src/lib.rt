@@ -6,9 +6,12 @@ mod tests {
     use axis::Levels;
     use drives::clock_stage::ClockStage;
     use drives::drive::Drive;
-    use module::{Act, Answer, Call, Drives, Fault, Module, Place, run};
+    use module::{Act, Answer, Call, Drives, Fault, Module, Place, Ran, run};
     use motion::RawData;
     use states::{Command, Layer, Order, Switches};
+    use std::alloc::Global;
+    use std::fmt::Debug;
+    use std::process::Abort;
     use std::test::Fail;
     use units::Measure;
 
@@ -97,11 +100,37 @@ mod tests {
         Call::OnAxis { axis, act }
     }
 
+    type Stages = Module<ClockStage, ClockStage, ClockStage>;
+
+    fn stages() -> Result<Drives<ClockStage, ClockStage, ClockStage>, Fail> {
+        Ok(Drives {
+            first: ClockStage::new(0)?,
+            second: ClockStage::new(999_999_999_990)?,
+            third: ClockStage::new(0)?,
+        })
+    }
+
+    fn new_module(heap: Global) -> Result<Stages, Fail> {
+        Ok(Module::new(heap, stages()?).map_err(|refused| refused.error)?)
+    }
+
+    // Where a comparison stands, for its failure: a table and its row from 0, a program, a drive.
+    type At = (&'static str, usize);
+
+    fn same<T: Copy + PartialEq + Debug>(rt: &impl Abort, at: At, is: T, wanted: T) {
+        assert_eq!(rt; is, wanted, "{at:?}");
+    }
+
     fn number_of(reply: Result<Answer, Fault>) -> Option<u8> {
         reply.err().map(|fault| fault.number())
     }
 
-    const CALLS: [(Ask, Option<u8>); 66] = [
+    // What a call is answered, by number.
+    fn answers(rt: &impl Abort, at: At, module: &mut Stages, ask: Ask, number: Option<u8>) {
+        same(rt, at, number_of(module.call(call_of(ask))), number);
+    }
+
+    static CALLS: [(Ask, Option<u8>); 66] = [
         (Tick(4), Some(1)),
         (Observe(0), Some(1)),
         (Observe(1), None),
@@ -173,28 +202,28 @@ mod tests {
     // 17 is reached by no list, and 2 belongs to making a drive.
     #[test]
     fn every_number(rt: HostRuntime) -> Result<(), Fail> {
-        let mut module = Module::new(rt.alloc(), stages()?).map_err(|refused| refused.error)?;
-        for (ask, number) in &CALLS {
-            assert_eq!(rt; number_of(module.call(call_of(*ask))), *number);
+        let mut module = new_module(rt.alloc())?;
+        for (row, (ask, number)) in CALLS.iter().enumerate() {
+            answers(&rt, ("CALLS", row), &mut module, *ask, *number);
         }
         // Sixteen programs are stored; there is room for no other.
         for number in 10u8..25 {
-            assert_eq!(rt;
-                number_of(module.call(call_of(Open(number, Measure::Inch)))),
-                None
-            );
-            assert_eq!(rt; number_of(module.call(call_of(Add(number, b"M02")))), None);
-            assert_eq!(rt; number_of(module.call(call_of(Close(number)))), None);
+            store(&rt, &mut module, number);
         }
-        assert_eq!(rt;
-            number_of(module.call(call_of(Open(25, Measure::Inch)))),
-            Some(28)
-        );
+        let no_room = Open(25, Measure::Inch);
+        answers(&rt, ("program", 25), &mut module, no_room, Some(28));
         Ok(())
     }
 
+    fn store(rt: &impl Abort, module: &mut Stages, number: u8) {
+        let at = ("program", number.into());
+        answers(rt, at, module, Open(number, Measure::Inch), None);
+        answers(rt, at, module, Add(number, b"M02"), None);
+        answers(rt, at, module, Close(number), None);
+    }
+
     // What goes wrong after some of the calls above, whole: number, layer and place.
-    const PLACES: [(Ask, u8, Layer, Place); 7] = [
+    static PLACES: [(Ask, u8, Layer, Place); 7] = [
         (
             Tick(4),
             1,
@@ -267,47 +296,51 @@ mod tests {
         ),
     ];
 
-    fn stages() -> Result<Drives<ClockStage, ClockStage, ClockStage>, Fail> {
-        Ok(Drives {
-            first: ClockStage::new(0)?,
-            second: ClockStage::new(999_999_999_990)?,
-            third: ClockStage::new(0)?,
-        })
+    // What a call is answered, whole: number, layer and place.
+    fn fails(rt: &impl Abort, at: At, module: &mut Stages, trouble: (Ask, u8, Layer, Place)) {
+        let (ask, number, layer, place) = trouble;
+        let fault = module.call(call_of(ask)).err();
+        same(rt, at, fault.map(|fault| fault.number()), Some(number));
+        same(rt, at, fault.map(|fault| fault.layer()), Some(layer));
+        same(rt, at, fault.map(|fault| fault.place()), Some(place));
     }
 
     #[test]
     fn faults_with_their_places(rt: HostRuntime) -> Result<(), Fail> {
-        let mut module = Module::new(rt.alloc(), stages()?).map_err(|refused| refused.error)?;
-        for (ask, number, layer, place) in &PLACES {
-            let fault = module.call(call_of(*ask)).err();
-            assert_eq!(rt; fault.map(|fault| fault.number()), Some(*number));
-            assert_eq!(rt; fault.map(|fault| fault.layer()), Some(*layer));
-            assert_eq!(rt; fault.map(|fault| fault.place()), Some(*place));
+        let mut module = new_module(rt.alloc())?;
+        for (row, trouble) in PLACES.iter().enumerate() {
+            fails(&rt, ("PLACES", row), &mut module, *trouble);
         }
         module.call(call_of(Open(7, Measure::Inch)))?;
-        let fault = module.call(call_of(Add(7, b"X1 Y2"))).err();
-        assert_eq!(rt; fault.map(|fault| fault.layer()), Some(Layer::Line));
-        assert_eq!(rt; fault.map(|fault| fault.place()), Some(Place::Byte(3)));
+        let wrong = (Add(7, b"X1 Y2"), 32, Layer::Line, Place::Byte(3));
+        fails(&rt, ("program", 7), &mut module, wrong);
         Ok(())
     }
 
     // The calls as one list, which has all its memory before the first: the same answers.
     #[test]
     fn one_list(rt: HostRuntime) -> Result<(), Fail> {
-        let mut calls = Vec::new(rt.alloc());
+        let ran = run_calls(rt.alloc())?;
+        compare(&rt, &ran.replies);
+        let (first, second) = (ran.drives.first.count(), ran.drives.second.count());
+        same(&rt, ("drive", 1), first, 0);
+        same(&rt, ("drive", 2), second, 999_999_999_991);
+        Ok(())
+    }
+
+    fn run_calls(heap: Global) -> Result<Ran<ClockStage, ClockStage, ClockStage>, Fail> {
+        let mut calls = Vec::new(heap);
         for (ask, _) in &CALLS {
             calls.push(call_of(*ask))?;
         }
-        let ran = run(rt.alloc(), stages()?, &calls).map_err(|refused| refused.error)?;
-        assert_eq!(rt; ran.replies.len(), CALLS.len());
-        for (i, (_, number)) in CALLS.iter().enumerate() {
-            assert_eq!(rt;
-                ran.replies.get(i).and_then(|reply| number_of(*reply)),
-                *number
-            );
+        Ok(run(heap, stages()?, &calls).map_err(|refused| refused.error)?)
+    }
+
+    fn compare(rt: &impl Abort, replies: &[Result<Answer, Fault>]) {
+        same(rt, ("replies", 0), replies.len(), CALLS.len());
+        for (row, (_, number)) in CALLS.iter().enumerate() {
+            let reply = replies.get(row).and_then(|reply| number_of(*reply));
+            same(rt, ("CALLS", row), reply, *number);
         }
-        assert_eq!(rt; ran.drives.first.count(), 0);
-        assert_eq!(rt; ran.drives.second.count(), 999_999_999_991);
-        Ok(())
     }
 }
