@@ -55,7 +55,12 @@ mod tests {
 
     #[test]
     fn questions(rt: HostRuntime) -> Result<(), Fail> {
-        run(&rt, rt.alloc(), 500, &[ASKED])?;
+        run(
+            &rt,
+            rt.alloc(),
+            500,
+            &[WITHOUT_DATA, WITHOUT_REFERENCE, WITH_BOTH, FOR_PROGRAMS],
+        )?;
         run(&rt, rt.alloc(), 500, &[HOME, SHIFTS])?;
         run(&rt, rt.alloc(), 500, &[HOME, BUSY])?;
         run(&rt, rt.alloc(), FARTHEST - 5, &[NEAR_END])?;
@@ -71,16 +76,35 @@ mod tests {
 
     #[test]
     fn programs(rt: HostRuntime) -> Result<(), Fail> {
-        run(&rt, rt.alloc(), 500, &[HOME, PROGRAMS])
+        let tables = [
+            HOME,
+            BETWEEN_BLOCKS,
+            MOVING,
+            HELD,
+            AMID_A_PULSE,
+            BY_BLOCK,
+            STARTED_ANEW,
+            HOLD_ENDED,
+            LET_GO,
+        ];
+        run(&rt, rt.alloc(), 500, &tables)
     }
 
     #[test]
     fn faults_of_ticks(rt: HostRuntime) -> Result<(), Fail> {
-        run(&rt, rt.alloc(), 500, &[HOME, TROUBLE, TROUBLE_IN_PROGRAM])
+        let tables = [
+            HOME,
+            TROUBLE,
+            TROUBLE_BRAKING,
+            REFUSED_BLOCKS,
+            SWITCH_IN_PROGRAM,
+            TROUBLE_BY_BLOCK,
+        ];
+        run(&rt, rt.alloc(), 500, &tables)
     }
 
     #[test]
     fn machine_data(rt: HostRuntime) -> Result<(), Fail> {
-        run(&rt, rt.alloc(), 500, &[DATA])
+        run(&rt, rt.alloc(), 500, &[DATA, DATA_OF_INCHES, DATA_HELD])
     }
 }

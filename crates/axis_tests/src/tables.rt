@@ -58,10 +58,13 @@ pub(crate) fn answers(mode: u8, command: Command) -> (Answer, Answer, Answer) {
 }
 
 // Without data, without reference, with both; the drive is not ready.
-pub(crate) const ASKED: &[Row] = &[
+pub(crate) const WITHOUT_DATA: &[Row] = &[
     (&[To(40_000_001), Set(12, 40_000_001)], No(7)),
     (&[Run(8, 5)], At(7, 5, 0)),
     (&[Resume(9)], At(7, 0, 0)),
+];
+
+pub(crate) const WITHOUT_REFERENCE: &[Row] = &[
     (&[AXIS, Set(17, 0)], Shows(4, 2, 0, 0, 0, 0xA2, 500)),
     (&[Set(6, 0), Order(7, Forward, 0, -1), Resume(9)], No(12)),
     (&[Run(8, 5)], At(12, 5, 0)),
@@ -71,6 +74,9 @@ pub(crate) const ASKED: &[Row] = &[
     (&[Order(2, Forward, 1_801, 0)], No(18)),
     (&[Order(1, Forward, 1_800, 50_000_000)], No(21)),
     (&[Order(2, Backward, 1_800, 0)], No(21)),
+];
+
+pub(crate) const WITH_BOTH: &[Row] = &[
     (&[REFERENCE], Shows(5, 2, 0, 0, 0, 0x8E, 500)),
     (&[Set(6, 200_001), To(-40_000_001)], No(13)),
     (&[Order(6, Start, 1_801, 40_000_001)], No(13)),
@@ -84,6 +90,9 @@ pub(crate) const ASKED: &[Row] = &[
     (&[Order(7, Forward, 1_800, 200_001)], No(19)),
     (&[Order(7, Backward, 1_800, 1_001)], No(19)),
     (&[Order(7, Backward, 1_800, 1_000)], No(21)),
+];
+
+pub(crate) const FOR_PROGRAMS: &[Row] = &[
     (&[Run(8, 5)], At(14, 5, 0)),
     (&[Keep(5, Inch, &[b"X0.01 M30"])], Done),
     (&[Run(9, 5)], At(15, 5, 0)),
@@ -203,14 +212,13 @@ const WORDS: &[&[u8]] = &[
     b"G00 X0 M30",
 ];
 
-pub(crate) const PROGRAMS: &[Row] = &[
+pub(crate) const BETWEEN_BLOCKS: &[Row] = &[
     (&[Set(12, 50), Set(15, 30)], Done),
     (
         &[Keep(6, Millimetre, &[b"X0.1 M00", b"X0.1", b"M02"])],
         Done,
     ),
     (&[Keep(7, Millimetre, WORDS)], Done),
-    // between blocks
     (&[Run(8, 7)], Shows(8, 2, 0, 80, 0, 0x0E, 500)),
     (&[WRONG], No(3)),
     (&[Halt(9)], Shows(8, 2, 0, 80, 0, 0x8E, 500)),
@@ -218,13 +226,18 @@ pub(crate) const PROGRAMS: &[Row] = &[
     (&[Set(12, 1)], No(11)),
     (&[], Shows(8, 2, 0, 80, 0, 0x8E, 500)),
     (&[Resume(8), Ticks(1)], Shows(8, 7, 0, 180, 280, 0x0A, 500)),
-    // moving, then braking
+];
+
+// Moving, then braking.
+pub(crate) const MOVING: &[Row] = &[
     (&[Ticks(1)], Shows(8, 7, 10, 180, 270, 0x0A, 501)),
     (&[Resume(8)], At(11, 0, 0)),
     (&[Resume(8), Halt(8)], No(10)),
     (&[Run(8, 6)], At(10, 6, 0)),
     (&[Ticks(1)], Shows(8, 7, 10, 180, 0, 0x8A, 501)),
-    // held
+];
+
+pub(crate) const HELD: &[Row] = &[
     (&[Halt(8), Set(17, 0), OFF], Done),
     (&[Set(6, 0)], No(13)),
     (&[Resume(8)], At(21, 7, 1)),
@@ -237,7 +250,10 @@ pub(crate) const PROGRAMS: &[Row] = &[
     (&[Ticks(6)], Shows(8, 7, 230, 180, 0, 0x0E, 523)),
     (&[Ticks(1)], Shows(8, 7, 230, 280, 0, 0x0E, 523)),
     (&[Ticks(1)], Shows(8, 11, 230, -220, -150, 0x0A, 523)),
-    // stopped amid a pulse, which is dropped; the feed stays
+];
+
+// Stopped amid a pulse, which is dropped; the feed stays.
+pub(crate) const AMID_A_PULSE: &[Row] = &[
     (&[Ticks(11), Halt(8), Ticks(1)], Done),
     (&[], Shows(8, 11, 180, -220, 0, 0x8A, 518)),
     (&[Resume(8)], Shows(8, 11, 180, -220, -100, 0x0A, 518)),
@@ -250,7 +266,10 @@ pub(crate) const PROGRAMS: &[Row] = &[
     (&[Ticks(1)], Shows(8, 30, 80, 80, 0, 0x8E, 508)),
     (&[Resume(8)], No(16)),
     (&[Set(4, 0)], Shows(4, 2, 80, 80, 0, 0x8E, 508)),
-    // held after each move and no other block
+];
+
+// Held after each move and no other block.
+pub(crate) const BY_BLOCK: &[Row] = &[
     (&[Run(9, 7)], Shows(9, 2, 80, 80, 0, 0x0E, 508)),
     (&[Ticks(1)], Shows(9, 7, 80, 180, 200, 0x0A, 508)),
     (&[Ticks(10)], Shows(9, 7, 280, 180, 0, 0x8E, 528)),
@@ -261,7 +280,10 @@ pub(crate) const PROGRAMS: &[Row] = &[
     (&[Ticks(1)], Shows(9, 0, 80, 80, 0, 0x8E, 508)),
     (&[Resume(9), Ticks(2)], Shows(9, 30, 80, 80, 0, 0x8E, 508)),
     (&[Resume(9)], No(16)),
-    // a start ends a hold and begins with G00 G53 G90
+];
+
+// A start ends a hold and begins with G00 G53 G90.
+pub(crate) const STARTED_ANEW: &[Row] = &[
     (&[Run(8, 7), Ticks(13), Halt(8), Ticks(1)], Done),
     (&[], Shows(8, 7, 270, 180, 0, 0x8A, 527)),
     (&[Run(9, 6)], Shows(9, 2, 270, 80, 0, 0x0A, 527)),
@@ -271,12 +293,14 @@ pub(crate) const PROGRAMS: &[Row] = &[
     (&[Resume(9), Ticks(2)], Shows(9, 0, 180, 80, 0, 0x8E, 518)),
     (&[Resume(9), Ticks(1)], Shows(9, 2, 180, 80, 0, 0x8E, 518)),
     (&[Resume(9)], No(16)),
-    // so does a move, which takes no offset
+];
+
+// So does a move, which takes no offset, and every order but stop, take-over and 17.
+pub(crate) const HOLD_ENDED: &[Row] = &[
     (&[Run(8, 7), Ticks(2), Halt(8), Ticks(1)], Done),
     (&[], Shows(8, 7, 190, 180, 0, 0x8A, 519)),
     (&[To(0)], Shows(6, 2, 190, 80, -110, 0x0A, 519)),
     (&[Ticks(20)], Shows(6, 2, 80, 80, 0, 0x8E, 508)),
-    // and every order but stop, take-over and 17
     (&[Run(8, 7), Ticks(1), Halt(8), Ticks(1)], Done),
     (&[], Shows(8, 7, 80, 180, 0, 0x8A, 508)),
     (&[Set(13, 0)], Shows(13, 2, 80, 80, 0, 0x8A, 508)),
@@ -286,7 +310,10 @@ pub(crate) const PROGRAMS: &[Row] = &[
     (&[Run(9, 7), Halt(9), REFERENCE], Done),
     (&[Resume(9)], No(16)),
     (&[], Shows(5, 2, 0, 80, 0, 0x8E, 508)),
-    // the store alone lets a held program go
+];
+
+// The store alone lets a held program go.
+pub(crate) const LET_GO: &[Row] = &[
     (&[Run(8, 7), Halt(8), Drop(7)], Done),
     (&[Resume(8)], At(17, 7, 0)),
     (&[Run(8, 7)], At(14, 7, 0)),
@@ -310,7 +337,9 @@ pub(crate) const TROUBLE: &[Row] = &[
     (&[REFERENCE, To(100), Ticks(7)], Done),
     (&[Levels(true, true, true), To(100), Ticks(1)], Done),
     (&[], Shows(6, 2, 100, 0, 0, 0x8E, 510)),
-    // braking
+];
+
+pub(crate) const TROUBLE_BRAKING: &[Row] = &[
     (&[Levels(false, true, true), To(0), Ticks(2)], Done),
     (&[Halt(6), Levels(true, true, false)], Done),
     (&[Ticks(1)], At(24, 0, 0)),
@@ -331,7 +360,7 @@ const BEYOND: &[&[u8]] = &[b"M07", b"G54 X199.901 M05", b"M02"];
 const TO_HIGH: &[&[u8]] = &[b"G54 X199.9 F2 M05", b"M30"];
 
 // Blocks that are refused, and faults while a block moves.
-pub(crate) const TROUBLE_IN_PROGRAM: &[Row] = &[
+pub(crate) const REFUSED_BLOCKS: &[Row] = &[
     (&[Keep(1, Millimetre, BEYOND)], Done),
     (&[Keep(2, Millimetre, TO_HIGH)], Done),
     (&[Keep(3, Millimetre, &[b"G01 X300 F1801 M30"])], Done),
@@ -349,11 +378,17 @@ pub(crate) const TROUBLE_IN_PROGRAM: &[Row] = &[
     (&[Ticks(1)], At(18, 3, 1)),
     (&[Run(9, 4)], Done),
     (&[Ticks(1)], At(19, 4, 1)),
+];
+
+pub(crate) const SWITCH_IN_PROGRAM: &[Row] = &[
     (&[Levels(true, true, true), Run(8, 2), Ticks(1)], Done),
     (&[], Shows(8, 5, 0, 100, 200_000, 0x0A, 508)),
     (&[Ticks(1)], At(23, 2, 1)),
     (&[], Shows(8, 5, 0, 0, 0, 0xA2, 508)),
     (&[Run(8, 2)], At(12, 2, 0)),
+];
+
+pub(crate) const TROUBLE_BY_BLOCK: &[Row] = &[
     (&[REFERENCE, READY, Run(9, 5), Ticks(3)], Done),
     (&[OFF], Shows(9, 30, -30, 0, -70, 0x0A, 505)),
     (&[Ticks(1)], At(24, 5, 1)),
@@ -383,6 +418,9 @@ pub(crate) const DATA: &[Row] = &[
     (&[REFERENCE], Shows(5, 2, 105, 0, 0, 0x8C, 500)),
     (&[WRONG], No(4)),
     (&[APART], No(5)),
+];
+
+pub(crate) const DATA_OF_INCHES: &[Row] = &[
     (&[Order(6, Start, 181, 0)], No(18)),
     (&[Order(6, Start, 180, 0)], Done),
     (&[], Shows(6, 2, 105, 0, -105, 0x08, 500)),
@@ -394,6 +432,9 @@ pub(crate) const DATA: &[Row] = &[
     (&[Keep(5, Inch, &[b"G54 X0.01 M30"]), Run(8, 5)], Done),
     (&[Ticks(1)], Shows(8, 30, 105, 112, 107, 0x08, 489)),
     (&[Ticks(7)], Shows(8, 30, 212, 12, 0, 0x8C, 499)),
+];
+
+pub(crate) const DATA_HELD: &[Row] = &[
     (&[Run(9, 5), Ticks(1), Halt(9)], Done),
     (&[WRONG, Delete], At(3, 0, 0)),
     (&[Ticks(1)], Shows(9, 30, 212, 112, 0, 0x88, 499)),
