@@ -199,7 +199,7 @@ mod tests {
         (Delete(7), Some(14)),
     ];
 
-    // 17 is reached by no list, and 2 belongs to making a drive.
+    // 17 answers no call, and 2 belongs to making a drive.
     #[test]
     fn every_number(rt: HostRuntime) -> Result<(), Fail> {
         let mut module = new_module(rt.alloc())?;
