@@ -9,7 +9,6 @@ use states::{AxisFault, Command, Layer, Observation, Switches};
 use std::alloc::Global;
 use std::fmt::Debug;
 use std::process::Abort;
-use std::test::Fail;
 use store::{Store, StoreFault};
 use units::Measure;
 
@@ -57,11 +56,13 @@ pub(crate) struct Bench {
 }
 
 impl Bench {
-    pub(crate) fn new(heap: Global, count: i64) -> Result<Bench, Fail> {
-        Ok(Bench {
-            axis: Axis::new(ClockStage::new(count)?),
-            store: Store::new(heap)?,
-        })
+    pub(crate) fn new(rt: &impl Abort, heap: Global, count: i64) -> Bench {
+        let stage = ClockStage::new(count).expect(rt, "a count between the ends");
+        let store = Store::new(heap).expect(rt, "memory for a store");
+        Bench {
+            axis: Axis::new(stage),
+            store,
+        }
     }
 
     // What a mode does not use is ignored: here such values are out of every range.
@@ -225,13 +226,7 @@ fn check_left(rt: &impl Abort, at: (usize, usize), left: Seen, after: Seen, all:
         same(rt, at, "count", after.count, left.count);
     }
     let actual = i64::from(after.axis.coordinate).checked_sub(after.axis.shift);
-    same(
-        rt,
-        at,
-        "coordinate less shift",
-        Some(after.axis.actual),
-        actual,
-    );
+    same(rt, at, "actual coordinate", Some(after.axis.actual), actual);
 }
 
 // The layer of a fault of an axis.
@@ -287,15 +282,9 @@ const AXIS_A: RawData = RawData {
 };
 
 // All tables on one axis. A failure names its table and its row, from 0.
-pub(crate) fn run(
-    rt: &impl Abort,
-    heap: Global,
-    count: i64,
-    tables: &[&[Row]],
-) -> Result<(), Fail> {
-    let mut bench = Bench::new(heap, count)?;
+pub(crate) fn run(rt: &impl Abort, heap: Global, count: i64, tables: &[&[Row]]) {
+    let mut bench = Bench::new(rt, heap, count);
     for (table, rows) in tables.iter().enumerate() {
         bench.rows(rt, table, rows);
     }
-    Ok(())
 }
