@@ -51,7 +51,7 @@ impl<D: Drive> Axis<D> {
 
     /// Mode, M number, coordinate, shift, actual value, rest, fault and feedback byte; nothing changes.
     /// The rows are feedback bytes of a new axis, of one with machine data and of a referenced one.
-    pub fn observe(&self) -> Observation
+    pub fn observe(&self) -> Observation<AxisFault>
         ensures value { shown_by result ≡ observed self.now.status }
         ensures rows { Feedback }
     {

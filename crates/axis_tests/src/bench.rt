@@ -184,7 +184,7 @@ impl Bench {
 // What is seen of an axis and of its drive.
 #[derive(Clone, Copy)]
 struct Seen {
-    axis: Observation,
+    axis: Observation<AxisFault>,
     count: i64,
 }
 

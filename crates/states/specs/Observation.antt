@@ -46,21 +46,25 @@ feedback_of machine w =
     + bit (not (is_some machine)) 64
     + bit (stands w.phase) 128
 
--- what observing shows, all of it in numbers
-pub record Shown : Type 0 where
+-- what observing shows, all of it in numbers; its fault is of the kind F of whoever shows it
+pub record Shown (F : Type 0) : Type 0 where
   pub mode : ℕ
   pub auxiliary : ℕ
   pub coordinate : ℤ
   pub shift : ℤ
   pub actual : ℤ
   pub rest : ℤ
-  pub fault : Option AxisFault
+  pub fault : Option F
   pub feedback : ℕ
 
-abbrev pub shown_by : Observation → Shown
+abbrev pub shown_by : {F : Type 0} → Observation F → Shown F
 shown_by o = record { mode = mode_number o.mode; auxiliary = o.auxiliary; coordinate = o.coordinate; shift = o.shift; actual = o.actual; rest = o.rest; fault = o.fault; feedback = o.feedback }
 
-abbrev pub observed : Status → Shown
+-- the same with a fault of another kind
+abbrev pub shown_with : {F G : Type 0} → Option G → Shown F → Shown G
+shown_with f o = record { mode = o.mode; auxiliary = o.auxiliary; coordinate = o.coordinate; shift = o.shift; actual = o.actual; rest = o.rest; fault = f; feedback = o.feedback }
+
+abbrev pub observed : Status → Shown AxisFault
 observed s = record {
   mode = s.work.mode;
   auxiliary = s.work.auxiliary;

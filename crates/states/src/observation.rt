@@ -1,9 +1,11 @@
-use crate::fault::AxisFault;
+ghost use Rattle.std.specs.Prelude.{◌≡◌};
+ghost use Rattle.states.specs.Observation.{shown_by, shown_with};
+
 use crate::mode::Mode;
 
-/// What observing an axis answers. Coordinates, shift and rest are in units.
+/// What observing answers, with a fault of the kind of whoever answers. Coordinates, shift and rest are in units.
 #[derive(Clone, Copy, PartialEq, Eq, Debug)]
-pub struct Observation {
+pub struct Observation<F> {
     pub mode: Mode,
     /// the M number
     pub auxiliary: u8,
@@ -13,7 +15,35 @@ pub struct Observation {
     pub actual: i64,
     /// what is left of a move
     pub rest: i64,
-    pub fault: Option<AxisFault>,
+    pub fault: Option<F>,
     /// the feedback byte
     pub feedback: u8,
+}
+
+impl<F: Drop> Observation<F> {
+    /// The same with a fault of another kind.
+    pub fn with_fault<G>(self, fault: Option<G>) -> Observation<G>
+        ensures { shown_by result ≡ shown_with fault (shown_by self) }
+    {
+        let Observation {
+            mode,
+            auxiliary,
+            coordinate,
+            shift,
+            actual,
+            rest,
+            fault: _,
+            feedback,
+        } = self;
+        Observation {
+            mode,
+            auxiliary,
+            coordinate,
+            shift,
+            actual,
+            rest,
+            fault,
+            feedback,
+        }
+    }
 }

@@ -3,6 +3,7 @@ ghost use Rattle.states.specs.View.{raw_in, status_of};
 ghost use Rattle.states.specs.Shift.{shift_of};
 ghost use Rattle.states.specs.Observation.{bit, measured, in_degrees, in_millimetres, rest_in, feedback_of, shown_by, observed};
 
+use crate::fault::AxisFault;
 use crate::observation::Observation;
 use crate::record::Record;
 use crate::state::State;
@@ -33,7 +34,7 @@ fn bit(set: bool, value: u8) -> u8
 
 impl Record {
     /// What observing answers; nothing changes.
-    pub fn observe(&self) -> Observation
+    pub fn observe(&self) -> Observation<AxisFault>
         ensures { shown_by result ≡ observed (status_of self.now) }
     {
         Observation {
