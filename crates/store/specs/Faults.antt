@@ -1,8 +1,10 @@
--- Which number and which place each fault of the store has.
+-- Which number and which place each fault of the store has, and why a closing is refused.
 use Rattle.std.specs.Prelude.{ℕ}
 use Rattle.reader.specs.Faults as line
 use Rattle.store.specs.declared.fault.StoreFault.{StoreFault}
 use Rattle.store.specs.declared.fault.StoreFault.TheVariants.{NotStored, OutOfRange, AlreadyStored, StoreFull, EntryOpen, NotOpen, Line, NotClosable}
+use Rattle.store.specs.declared.entry.CloseRefusal.{CloseRefusal}
+use Rattle.store.specs.declared.entry.CloseRefusal.TheVariants.{NotThisOne, Ended}
 use Rattle.store.specs.declared.fault.Place.{Place}
 use Rattle.store.specs.declared.fault.Place.TheVariants as place
 
@@ -25,3 +27,8 @@ place_of (EntryOpen n) = place.Program n
 place_of (NotOpen n) = place.Program n
 place_of (Line e) = place.Byte (line.place_of e)
 place_of (NotClosable n) = place.Program n
+
+-- the fault of a closing by token that is refused
+abbrev pub refusal_fault : CloseRefusal → StoreFault
+refusal_fault (NotThisOne back) = back.fault
+refusal_fault (Ended f) = f

@@ -1,5 +1,6 @@
 ghost use Rattle.std.specs.Prelude.{◌≡◌};
 ghost use Rattle.store.specs.Entry.{back};
+ghost use Rattle.store.specs.Faults.{refusal_fault};
 ghost use Rattle.store.specs.declared.entry.CloseRefusal.TheVariants.{NotThisOne, Ended};
 
 use crate::fault::StoreFault;
@@ -50,6 +51,18 @@ pub enum CloseRefusal {
     NotThisOne(HandedBack),
     /// The entry is over and its lines are gone.
     Ended(StoreFault),
+}
+
+impl CloseRefusal {
+    /// Why the closing is refused: 30 or 35.
+    pub fn fault(&self) -> StoreFault
+        ensures { result ≡ refusal_fault self.now }
+    {
+        match self {
+            CloseRefusal::NotThisOne(back) => back.fault,
+            CloseRefusal::Ended(fault) => *fault,
+        }
+    }
 }
 
 impl From<HandedBack> for CloseRefusal {
