@@ -1,4 +1,4 @@
--- Which number, layer and place each fault has.
+-- Which number, layer and place each fault has, and the fault of a call by token that is refused.
 use Rattle.std.specs.Prelude.{◌≡◌, ℕ, Bool, true, not, ◌&&◌, ◌==◌, nat_le}
 use Rattle.states.specs.declared.fault.Layer.{Layer}
 use Rattle.states.specs.declared.fault.Layer.TheVariants as layer
@@ -7,7 +7,10 @@ use Rattle.store.specs.declared.fault.StoreFault.{StoreFault}
 use Rattle.store.specs.declared.fault.StoreFault.TheVariants.{NotStored, OutOfRange, AlreadyStored, StoreFull, EntryOpen, NotOpen, Line, NotClosable}
 use Rattle.store.specs.declared.fault.Place.{Place as StorePlace}
 use Rattle.store.specs.declared.fault.Place.TheVariants as of_store
+use Rattle.store.specs.declared.entry.HandedBack.{HandedBack}
+use Rattle.store.specs.declared.entry.CloseRefusal.{CloseRefusal}
 use Rattle.store.specs.Faults as store
+use Rattle.store.specs.Faults.{refusal_fault}
 use Rattle.module.specs.declared.fault.Fault.{Fault}
 use Rattle.module.specs.declared.fault.Fault.TheVariants.{NoSuchAxis, OfAxis, OfStore, InUse}
 use Rattle.module.specs.declared.fault.Place.{Place}
@@ -52,3 +55,11 @@ place_of (NoSuchAxis axis program) = At axis program 0
 place_of (OfAxis axis fault) = At axis fault.program fault.block
 place_of (OfStore fault) = store_place (store.place_of fault)
 place_of (InUse program) = At 0 program 0
+
+-- of a closing by token: 30 or 35
+abbrev pub close_fault : CloseRefusal → Fault
+close_fault r = OfStore (refusal_fault r)
+
+-- of an abandoning by token: 30
+abbrev pub abandon_fault : HandedBack → Fault
+abandon_fault back = OfStore back.fault

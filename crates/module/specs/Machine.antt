@@ -1,5 +1,6 @@
 -- The coordinate machine: what each call makes of three axes and the programs, and what it is answered.
 use Rattle.std.specs.Prelude.{ℕ, Bool, cond, ◌||◌, List, [], ◌∷◌, is_some, Some, None, Ok, Err, Option, Result, ◌==◌}
+use Rattle.std.specs.Option.{option_map}
 use Rattle.drives.specs.Meaning.{Meaning}
 use Rattle.store.specs.declared.fault.StoreFault.{StoreFault}
 use Rattle.store.specs.declared.fault.StoreFault.TheVariants.{NotStored}
@@ -8,7 +9,7 @@ use Rattle.store.specs.Entry.{open_done, opened, add_reply, added, close_reply, 
 use Rattle.states.specs.declared.fault.AxisFault.{AxisFault}
 use Rattle.states.specs.State.{AxisState, uses}
 use Rattle.states.specs.Entry.{enter_reply, delete_reply}
-use Rattle.states.specs.Observation.{Shown, observed}
+use Rattle.states.specs.Observation.{Shown, shown_with, observed}
 use Rattle.orders.specs.Orders.{names_program, order_reply}
 use Rattle.ticks.specs.Ticks.{tick_step, tick_reply}
 use Rattle.laws.specs.Acts.{enter_axis, delete_axis, order_axis, levels_step, new_axis}
@@ -23,7 +24,7 @@ use Rattle.module.specs.State.{Machine}
 -- what a call is answered: that it is done, what an axis shows, or why it is refused
 pub data Reply : Type 0 where
   done : Reply
-  shown : Shown → Reply
+  shown : Shown Fault → Reply
   refused : Fault → Reply
 
 -- ONE AXIS
@@ -38,11 +39,11 @@ acted Tick p a = tick_step p a
 acted Observe p a = a
 
 -- and what it is answered
-abbrev pub done_or : Result (Unit {0}) AxisFault → Result (Option Shown) AxisFault
+abbrev pub done_or : Result (Unit {0}) AxisFault → Result (Option (Shown AxisFault)) AxisFault
 done_or (Ok u) = Ok None
 done_or (Err f) = Err f
 
-abbrev pub answered : Act → Programs → AxisState → Result (Option Shown) AxisFault
+abbrev pub answered : Act → Programs → AxisState → Result (Option (Shown AxisFault)) AxisFault
 answered (Enter raw) p a = done_or (enter_reply raw a.status)
 answered Delete p a = done_or (delete_reply a.status)
 answered (Order o) p a = done_or (order_reply o p a.drive a.status)
@@ -61,9 +62,13 @@ named Observe = 0
 
 -- THREE AXES AND THE STORE
 
-abbrev pub at_axis : ℕ → Result (Option Shown) AxisFault → Reply
+-- what an axis shows, with its number in the fault
+abbrev pub shown_on : ℕ → Shown AxisFault → Shown Fault
+shown_on axis o = shown_with (option_map (OfAxis axis) o.fault) o
+
+abbrev pub at_axis : ℕ → Result (Option (Shown AxisFault)) AxisFault → Reply
 at_axis axis (Ok None) = done
-at_axis axis (Ok (Some o)) = shown o
+at_axis axis (Ok (Some o)) = shown (shown_on axis o)
 at_axis axis (Err f) = refused (OfAxis axis f)
 
 abbrev pub at_store : Result (Unit {0}) StoreFault → Reply

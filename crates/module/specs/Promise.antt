@@ -4,6 +4,7 @@ use Rattle.drives.specs.Meaning.{Meaning}
 use Rattle.motion.specs.declared.raw.RawData.{RawData}
 use Rattle.motion.specs.Laws.{Near}
 use Rattle.states.specs.declared.order.Order.{Order}
+use Rattle.states.specs.declared.fault.AxisFault.{AxisFault}
 use Rattle.states.specs.State.{Phase, course_of}
 use Rattle.states.specs.Observation.{Shown, observed}
 use Rattle.orders.specs.Modes.{stops}
@@ -32,7 +33,7 @@ pub record Exact (x y z : Meaning) (calls : List Call) (answers : List Reply) (x
 -- NO DRIFT: of one axis, from a machine s
 
 -- what observing the axis answers after the calls
-abbrev pub shows : Which → Machine → List Call → Shown
+abbrev pub shows : Which → Machine → List Call → Shown AxisFault
 shows w s calls = observed (axis_at w (after s calls)).status
 
 abbrev pub count : Which → Machine → List Call → ℤ

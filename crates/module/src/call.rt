@@ -1,6 +1,7 @@
 ghost use Rattle.std.specs.Prelude.{◌≡◌};
 ghost use Rattle.module.specs.Machine.{named};
 
+use crate::fault::Fault;
 use axis::Levels;
 use motion::RawData;
 use orders::names_program;
@@ -45,5 +46,5 @@ pub enum Call<'a> {
 #[derive(Clone, Copy, PartialEq, Eq, Debug)]
 pub enum Answer {
     Done,
-    Shown(Observation),
+    Shown(Observation<Fault>),
 }

@@ -6,7 +6,7 @@ ghost use Rattle.module.specs.Replies.{reply_by, refusal_in, shown_in};
 
 use crate::call::{Act, Answer, Call};
 use crate::fault::Fault;
-use crate::one_axis::perform;
+use crate::one_axis::{perform, shown_on};
 use crate::three::Module;
 use axis::Levels;
 use drives::drive::Drive;
@@ -45,7 +45,10 @@ impl<X: Drive, Y: Drive, Z: Drive> Module<X, Y, Z> {
                 program: act.program(),
             }),
         };
-        answer.map_err(|fault| Fault::OfAxis { axis, fault })
+        match answer.map_err(|fault| (axis, fault))? {
+            None => Ok(Answer::Done),
+            Some(observation) => Ok(Answer::Shown(shown_on(axis, observation))),
+        }
     }
 
     /// Machine data entry: 1, 3, 4, 5.
@@ -94,15 +97,16 @@ impl<X: Drive, Y: Drive, Z: Drive> Module<X, Y, Z> {
     }
 
     /// What an axis shows; nothing changes.
-    pub fn observe(&self, axis: u8) -> Result<Observation, Fault>
+    pub fn observe(&self, axis: u8) -> Result<Observation<Fault>, Fault>
         ensures { shown_in result ≡ reply (OnAxis axis Observe) self.now }
     {
-        match axis {
-            1 => Ok(self.first.observe()),
-            2 => Ok(self.second.observe()),
-            3 => Ok(self.third.observe()),
-            _ => Err(Fault::NoSuchAxis { axis, program: 0 }),
-        }
+        let observation = match axis {
+            1 => self.first.observe(),
+            2 => self.second.observe(),
+            3 => self.third.observe(),
+            _ => return Err(Fault::NoSuchAxis { axis, program: 0 }),
+        };
+        Ok(shown_on(axis, observation))
     }
 
     /// Program deletion: 14, 36.

@@ -1,10 +1,10 @@
 ghost use Rattle.std.specs.Prelude.{◌≡◌};
-ghost use Rattle.module.specs.declared.fault.Fault.TheVariants.{OfStore};
-ghost use Rattle.module.specs.Faults.{number_of, UsedNumbers, layer_of, place_of};
+ghost use Rattle.module.specs.declared.fault.Fault.TheVariants.{OfAxis, OfStore};
+ghost use Rattle.module.specs.Faults.{number_of, UsedNumbers, layer_of, place_of, close_fault, abandon_fault};
 
 use states::{AxisFault, Layer};
-use store::StoreFault;
 use store::fault::Place as StorePlace;
+use store::{CloseRefusal, HandedBack, StoreFault};
 
 /// Why a call is refused, or a tick fails.
 #[derive(Clone, Copy, PartialEq, Eq, Debug)]
@@ -26,11 +26,38 @@ pub enum Place {
     At { axis: u8, program: u8, block: u8 },
 }
 
+/// The fault of the axis of a number, as it is.
+impl From<(u8, AxisFault)> for Fault {
+    ghost from_gives = { λ on result. result ≡ OfAxis on.0 on.1 };
+
+    fn from((axis, fault): (u8, AxisFault)) -> Fault {
+        Fault::OfAxis { axis, fault }
+    }
+}
+
 impl From<StoreFault> for Fault {
     ghost from_gives = { λ fault result. result ≡ OfStore fault };
 
     fn from(fault: StoreFault) -> Fault {
         Fault::OfStore(fault)
+    }
+}
+
+/// Why a closing by token is refused.
+impl From<&CloseRefusal> for Fault {
+    ghost from_gives = { λ refusal result. result ≡ close_fault refusal.now };
+
+    fn from(refusal: &CloseRefusal) -> Fault {
+        refusal.fault().into()
+    }
+}
+
+/// Why an abandoning by token is refused.
+impl From<&HandedBack> for Fault {
+    ghost from_gives = { λ back result. result ≡ abandon_fault back.now };
+
+    fn from(back: &HandedBack) -> Fault {
+        back.fault.into()
     }
 }
 
