@@ -1,6 +1,6 @@
 ghost use Rattle.std.specs.Prelude.{◌≡◌};
 ghost use Rattle.states.specs.Observation.{shown_by};
-ghost use Rattle.module.specs.Machine.{acted, answered, shown_on as what_shows};
+ghost use Rattle.module.specs.Machine.{acted, answered, shown_on};
 ghost use Rattle.module.specs.Replies.{answer_by};
 
 use crate::call::Act;
@@ -32,7 +32,7 @@ pub(crate) fn perform<D: Drive>(
 
 // What the axis of a number shows, with the number in the fault.
 pub(crate) fn shown_on(axis: u8, observation: Observation<AxisFault>) -> Observation<Fault>
-    ensures { shown_by result ≡ what_shows axis (shown_by observation) }
+    ensures { shown_by result ≡ shown_on axis (shown_by observation) }
 {
     let fault = observation.fault.map(|fault| Fault::from((axis, fault)));
     observation.with_fault(fault)

@@ -91,7 +91,7 @@ const FEEDBACK: [(u8, &str); 7] = [
 
 /// What an observation says beside its numbers: the mode, the feedback byte and the fault.
 #[derive(Clone, Copy)]
-pub struct Explained(pub Observation);
+pub struct Explained(pub Observation<Fault>);
 
 impl fmt::Display for Explained {
     fn fmt<W: fmt::Write>(&self, f: &mut fmt::Formatter<W>) -> fmt::Result {
@@ -102,7 +102,7 @@ impl fmt::Display for Explained {
         match self.0.fault {
             None => Ok(()),
             Some(fault) => {
-                let words = cause_in_words(fault.cause);
+                let words = in_words(fault);
                 write!(f, "; {words}")
             }
         }

@@ -3,12 +3,9 @@ use module::Fault;
 use states::Observation;
 use std::fmt;
 
-/// An observation as `rail` prints it, with the number of its axis.
+/// An observation as `rail` prints it.
 #[derive(Clone, Copy)]
-pub struct Observed {
-    pub axis: u8,
-    pub observation: Observation,
-}
+pub struct Observed(pub Observation<Fault>);
 
 impl fmt::Display for Observed {
     fn fmt<W: fmt::Write>(&self, f: &mut fmt::Formatter<W>) -> fmt::Result {
@@ -21,22 +18,16 @@ impl fmt::Display for Observed {
             rest,
             fault,
             feedback,
-        } = self.observation;
+        } = self.0;
         let mode = u8::from(mode);
         write!(
             f,
             "mode {mode} m {auxiliary} coordinate {coordinate} shift {shift}"
         )?;
         write!(f, " actual {actual} rest {rest} feedback {feedback:02X}")?;
-        match fault {
+        match fault.map(Placed) {
             None => f.write_str(" fault none"),
-            Some(fault) => {
-                let fault = Placed(Fault::OfAxis {
-                    axis: self.axis,
-                    fault,
-                });
-                write!(f, " {fault}")
-            }
+            Some(fault) => write!(f, " {fault}"),
         }
     }
 }

@@ -56,11 +56,9 @@ impl<'r, 'a> Rail<'r, 'a> {
         self.keep(call, 1)?;
         match self.bench.call(call) {
             Ok(Answer::Done) => self.tell(axis, &"ok", &done_in_words(call)),
-            Ok(Answer::Shown(observation)) => self.tell(
-                axis,
-                &Observed { axis, observation },
-                &Explained(observation),
-            ),
+            Ok(Answer::Shown(observation)) => {
+                self.tell(axis, &Observed(observation), &Explained(observation))
+            }
             Err(fault) => self.tell(axis, &Placed(fault), &in_words(fault)),
         }
     }

@@ -257,7 +257,9 @@ impl Bench<'_> {
     fn after(&mut self, act: Act) -> Option<Places> {
         let axis = self.axis;
         let answers = self.sides.make(&Call::OnAxis { axis, act })?;
-        let [first, second, _] = answers.sights;
+        let [Some(first), Some(second), _] = answers.sights else {
+            return None;
+        };
         let [count, layer, _] = answers.counts;
         let [_, motor, _] = answers.motors;
         match (answers.reply, axis) {

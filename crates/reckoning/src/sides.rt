@@ -8,7 +8,7 @@ use crate::whole::Whole;
 use drives::clock_stage::ClockStage;
 use drives::drive::Drive;
 use drives::take_up::TakeUp;
-use module::{Answer, Call, Drives, Module};
+use module::{Answer, Call, Drives, Fault, Module};
 use states::Observation;
 use std::io;
 
@@ -29,7 +29,8 @@ pub struct Build {
 #[derive(Clone, Copy, PartialEq, Eq, Debug)]
 pub struct Answers {
     pub reply: Reply,
-    pub sights: [Sight; 3],
+    /// none where the axis is not shown
+    pub sights: [Option<Sight>; 3],
     pub counts: [Whole; 3],
     pub motors: [Whole; 3],
 }
@@ -89,7 +90,7 @@ impl<'a> Sides<'a> {
     fn ask_core(&mut self, call: &Call) -> Answers {
         let reply = match self.core.call(*call) {
             Ok(Answer::Done) => Ok(None),
-            Ok(Answer::Shown(observation)) => Ok(Some(sight(axis_of(call), observation))),
+            Ok(Answer::Shown(observation)) => Ok(Some(sight(observation))),
             Err(fault) => Err(Trouble::told(fault)),
         };
         let first = self.core.first();
@@ -97,11 +98,7 @@ impl<'a> Sides<'a> {
         let third = self.core.third();
         Answers {
             reply,
-            sights: [
-                sight(1, first.observe()),
-                sight(2, second.observe()),
-                sight(3, third.observe()),
-            ],
+            sights: [self.sight_of(1), self.sight_of(2), self.sight_of(3)],
             counts: [
                 Whole::of(first.drive().count()),
                 Whole::of(second.drive().count()),
@@ -115,12 +112,20 @@ impl<'a> Sides<'a> {
         }
     }
 
+    fn sight_of(&self, axis: u8) -> Option<Sight> {
+        self.core.observe(axis).ok().map(sight)
+    }
+
     fn ask_plain(&mut self, call: &Call) -> Answers {
         let reply = self.plant.call(call);
         let [first, second, third] = &self.plant.axes;
         Answers {
             reply,
-            sights: [first.sight(), second.sight(), third.sight()],
+            sights: [
+                Some(first.sight()),
+                Some(second.sight()),
+                Some(third.sight()),
+            ],
             counts: [first.drive.count, second.drive.count, third.drive.count],
             motors: [
                 first.drive.motor(),
@@ -160,14 +165,7 @@ fn plain_drives(build: Build) -> Option<Plant> {
     ))
 }
 
-fn axis_of(call: &Call) -> u8 {
-    match *call {
-        Call::OnAxis { axis, .. } => axis,
-        _ => 0,
-    }
-}
-
-fn sight(axis: u8, observation: Observation) -> Sight {
+fn sight(observation: Observation<Fault>) -> Sight {
     Sight {
         mode: u8::from(observation.mode),
         auxiliary: observation.auxiliary,
@@ -175,10 +173,7 @@ fn sight(axis: u8, observation: Observation) -> Sight {
         shift: Whole::of(observation.shift),
         actual: Whole::of(observation.actual),
         rest: Whole::of(observation.rest),
-        trouble: match observation.fault {
-            Some(fault) => Some(Trouble::shown(axis, fault)),
-            None => None,
-        },
+        trouble: observation.fault.map(Trouble::told),
         feedback: observation.feedback,
     }
 }

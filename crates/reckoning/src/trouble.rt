@@ -1,5 +1,5 @@
 use module::{Fault, Place};
-use states::{AxisFault, Layer};
+use states::Layer;
 
 /// A fault as the rules tell it: its number, its layer and its place.
 #[derive(Clone, Copy, PartialEq, Eq, Debug)]
@@ -41,19 +41,6 @@ impl Trouble {
             number: fault.number(),
             layer: fault.layer(),
             place: fault.place(),
-        }
-    }
-
-    /// What an observation of this axis tells of its fault.
-    pub fn shown(axis: u8, fault: AxisFault) -> Trouble {
-        Trouble {
-            number: fault.cause.number(),
-            layer: fault.cause.layer(),
-            place: Place::At {
-                axis,
-                program: fault.program,
-                block: fault.block,
-            },
         }
     }
 }

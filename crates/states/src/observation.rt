@@ -20,30 +20,20 @@ pub struct Observation<F> {
     pub feedback: u8,
 }
 
-impl<F: Drop> Observation<F> {
+impl<F: Copy> Observation<F> {
     /// The same with a fault of another kind.
     pub fn with_fault<G>(self, fault: Option<G>) -> Observation<G>
         ensures { shown_by result ≡ shown_with fault (shown_by self) }
     {
-        let Observation {
-            mode,
-            auxiliary,
-            coordinate,
-            shift,
-            actual,
-            rest,
-            fault: _,
-            feedback,
-        } = self;
         Observation {
-            mode,
-            auxiliary,
-            coordinate,
-            shift,
-            actual,
-            rest,
+            mode: self.mode,
+            auxiliary: self.auxiliary,
+            coordinate: self.coordinate,
+            shift: self.shift,
+            actual: self.actual,
+            rest: self.rest,
             fault,
-            feedback,
+            feedback: self.feedback,
         }
     }
 }
