@@ -77,7 +77,7 @@ asked_reply Tick n p a = refl
 asked_reply Observe n p a = tt
 
 -- the axis that is named replies
-reply_of : (w : Which) (axis : ℕ) (act : Act) (s : Machine) → axis ≡ number w
+pub reply_of : (w : Which) (axis : ℕ) (act : Act) (s : Machine) → axis ≡ number w
     → reply (OnAxis axis act) s ≡ at_axis (number w) (answered act s.programs (axis_at w s))
 reply_of first axis act s e = ap (λ (n : ℕ). reply (OnAxis n act) s) e
 reply_of second axis act s e = ap (λ (n : ℕ). reply (OnAxis n act) s) e

@@ -8,3 +8,5 @@ pub mod Used
 pub mod Worked
 pub mod Tokens
 pub mod Giving
+pub mod Refused
+pub mod OneMore

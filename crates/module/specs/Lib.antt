@@ -6,5 +6,6 @@ pub mod Made
 pub mod History
 pub mod Given
 pub mod InUse
+pub mod Refusals
 pub mod Promise
 pub mod Examples

@@ -1,6 +1,6 @@
 -- What a run of calls on a new module promises.
-use Rattle.std.specs.Prelude.{◌≡◌, ℕ, ◌≤◌, max, true, false, List, ◌∷◌, ◌++◌, ℤ, pos, ◌+ℤ◌, ◌-ℤ◌, map, vec_items, Some, None, Ok, Err, Result}
-use Rattle.drives.specs.Meaning.{Meaning}
+use Rattle.std.specs.Prelude.{◌≡◌, ℕ, ◌≤◌, max, true, false, List, [], ◌∷◌, ◌++◌, ℤ, pos, ◌+ℤ◌, ◌-ℤ◌, map, vec_items, Some, None, Ok, Err, Result}
+use Rattle.drives.specs.Meaning.{Meaning, Sound}
 use Rattle.motion.specs.declared.raw.RawData.{RawData}
 use Rattle.motion.specs.Laws.{Near}
 use Rattle.states.specs.declared.order.Order.{Order}
@@ -88,6 +88,14 @@ pub record Promise (x y z : Meaning) (calls : List Call) (answers : List Reply) 
   pub exact : Exact x y z calls answers x′ y′ z′
   pub no_drift : (w : Which) → NoDrift w (new_machine x y z) calls (history w (new_machine x y z) calls answers)
   pub in_use : ProgramsInUse x y z calls
+
+-- from any module that calls have reached: a call, with what it is answered and what it leaves, keeps the promise of the calls
+-- before it
+abbrev pub GoesOn : Call → Reply → Machine → Machine → Type 0
+GoesOn c answer s t = (x y z : Meaning) → Sound x → Sound y → Sound z → (before : List Call)
+    → s ≡ after (new_machine x y z) before
+    → Promise x y z (before ++ (c ∷ [])) (replies (new_machine x y z) before ++ (answer ∷ []))
+    t.first.drive t.second.drive t.third.drive
 
 -- a run keeps the promise; without memory the drives come back as they were
 abbrev pub Answered : {X Y Z : Type 0} → (X → Meaning) → (Y → Meaning) → (Z → Meaning) → Drives X Y Z → List Call → Result (Ran X Y Z) (NotMade X Y Z) → Type 0

@@ -3,6 +3,8 @@ ghost use Rattle.module.specs.declared.call.Act.TheVariants.{Enter, Delete, Orde
 ghost use Rattle.module.specs.declared.call.Call.TheVariants.{OnAxis, DeleteProgram};
 ghost use Rattle.module.specs.Machine.{reply, step, in_use};
 ghost use Rattle.module.specs.Replies.{reply_by, refusal_in, shown_in};
+ghost use Rattle.module.specs.Refusals.{Refusals};
+ghost use Rattle.module.specs.Promise.{GoesOn};
 
 use crate::call::{Act, Answer, Call};
 use crate::fault::Fault;
@@ -16,8 +18,19 @@ use store::StoreFault;
 
 // Every call has a form of its own, and one by which it comes over the cable.
 impl<X: Drive, Y: Drive, Z: Drive> Module<X, Y, Z> {
-    /// A call as it comes over the cable. An entry is then named by its number.
+    /// A call as it comes over the cable. An entry is then named by its number. Whatever calls came before it,
+    /// the promise of a run goes on with it, and a refusal does what its number says and nothing else.
     pub fn call(&mut self, call: Call) -> Result<Answer, Fault>
+        ensures value { reply_by result ≡ reply call.entry self.old }
+        ensures after { self.new ≡ step call.entry self.old }
+        ensures promise { GoesOn call.entry (reply_by result) self.old self.new }
+        ensures refusals { Refusals }
+    {
+        self.make(call)
+    }
+
+    // What the call says.
+    fn make(&mut self, call: Call) -> Result<Answer, Fault>
         ensures value { reply_by result ≡ reply call.entry self.old }
         ensures after { self.new ≡ step call.entry self.old }
     {

@@ -1,0 +1,215 @@
+-- A refused call does what its number says, and nothing else.
+use Rattle.std.proofs.Common.{◌≡◌, ℕ, ℤ, Bool, true, false, cond, eqb, List, [], ◌∷◌, ◌++◌, is_some, Some, None, Ok, Err, Option, Result, refl, sym, ap, ◌∙◌, subst, inl, inr, arith}
+use Rattle.std.proofs.lemmas.Bool.{eqb-true, false≢true}
+use Rattle.units.specs.declared.Measure.{Measure}
+use Rattle.drives.specs.Meaning.{Meaning}
+use Rattle.motion.specs.declared.raw.RawData.{RawData}
+use Rattle.reader.specs.declared.block.Block.{Block}
+use Rattle.reader.specs.declared.fault.LineFault.{LineFault}
+use Rattle.store.specs.Programs.{Program, Programs, found, read, joined_to, line_reply}
+use Rattle.store.specs.declared.fault.StoreFault.{StoreFault}
+use Rattle.store.specs.declared.fault.StoreFault.TheVariants.{NotStored, NotOpen, NotClosable}
+use Rattle.store.specs.Entry as entry
+use Rattle.store.specs.Closing.{closable}
+use Rattle.states.specs.declared.aim.Aim.{Aim}
+use Rattle.states.specs.declared.fault.Cause.{Cause}
+use Rattle.states.specs.declared.order.Order.{Order as OrderGiven}
+use Rattle.states.specs.Entry.{enter_no, delete_no, call_reply, unless}
+use Rattle.states.specs.Effects.{fault_in}
+use Rattle.states.specs.State.{Course, Travel, Phase, standing, moving, braking, held, between, Work, Status, AxisState}
+use Rattle.orders.specs.declared.plan.Plan.{Plan}
+use Rattle.orders.specs.Questions.{verdict}
+use Rattle.orders.specs.Orders.{answered as order_answered, left}
+use Rattle.ticks.specs.Blocks.{with_words, block_verdict, begun_with, begun_reply, block_run, block_reply, next_run, next_reply, next_block}
+use Rattle.ticks.specs.Ticks.{with_status, trouble_of, trouble_reply, unless_trouble, tick_at, reply_at as tick_reply_at}
+use Rattle.module.specs.declared.call.Act.{Act}
+use Rattle.module.specs.declared.call.Act.TheVariants.{Enter, Delete, Order, Level, Tick, Observe}
+use Rattle.module.specs.declared.call.Call.TheVariants.{OnAxis, Open, Add, Close, Abandon, DeleteProgram}
+use Rattle.module.specs.declared.fault.Fault.{Fault}
+use Rattle.module.specs.declared.fault.Fault.TheVariants.{OfAxis, OfStore, InUse}
+use Rattle.module.specs.Faults.{number_of}
+use Rattle.module.specs.State.{Machine}
+use Rattle.module.specs.History.{Which, first, second, third, number, axis_at, loses}
+use Rattle.module.specs.Machine.{done, refused, acted, answered, done_or, at_axis, at_store, in_use, if_named, with_programs, reply, step}
+use Rattle.module.specs.Refusals.{with_values, OrderRefused, OnMove, TickRefused, ActRefused, ActRefusedIf, without_entry, Refusals}
+use Rattle.module.proofs.Axes.{reply_of}
+
+-- refusals are the same fault
+same_fault : (f g : Fault) → refused f ≡ refused g → f ≡ g
+same_fault f g e = cc
+
+-- what holds of the fault of a refusal holds of that fault
+of_refusal : (P : Fault → Type 0) (f g : Fault) → refused f ≡ refused g → P f → P g
+of_refusal P f g e h = subst P (same_fault f g e) h
+
+-- MACHINE DATA
+unless_refused : (o : Option Cause) (n : ℕ) (f : Fault) (a : AxisState) (next : Status)
+    → at_axis n (done_or (call_reply o)) ≡ refused f → with_status (unless o a.status next) a ≡ a
+unless_refused None n f a next e = absurd (cc)
+unless_refused (Some cause) n f a next e = refl
+
+-- AN ORDER
+order_refused : (v : Result Plan Cause) (o : OrderGiven) (n : ℕ) (f : Fault) (a : AxisState)
+    → at_axis n (done_or (order_answered o a.status.work.phase v)) ≡ refused f
+    → OrderRefused f a (with_status (left o a.drive a.status v) a)
+order_refused (Ok plan) o n f a e = absurd (cc)
+order_refused (Err cause) o n f a e =
+    let b = with_status (left o a.drive a.status (Err cause)) a in
+    of_refusal (λ (g : Fault). OrderRefused g a b) _ f e refl
+
+-- A TICK
+
+-- trouble has the number 24 or 23
+trouble_loses : (t : Travel) (a : AxisState) (cause : Cause) (n : ℕ) → trouble_of t a ≡ Some cause
+    → loses (refused (OfAxis n (fault_in t.course cause))) ≡ true
+trouble_loses t a cause n e = grind arith
+
+-- a move that is stopped at once
+stopped_refused : (o : Option Cause) (t : Travel) (n : ℕ) (f : Fault) (a next : AxisState) → OnMove t a.status.work.phase
+    → ((cause : Cause) → o ≡ Some cause → loses (refused (OfAxis n (fault_in t.course cause))) ≡ true)
+    → at_axis n (done_or (trouble_reply o t)) ≡ refused f → TickRefused f a (unless_trouble o t a next)
+stopped_refused None t n f a next m h e = absurd (cc)
+stopped_refused (Some cause) t n f a next m h e =
+    let b = unless_trouble (Some cause) t a next in
+    of_refusal (λ (g : Fault). TickRefused g a b) _ f e
+    record { at_once = λ z. (t, m, refl); not_taken = λ z. absurd (false≢true (sym z ∙ h cause refl)) }
+
+-- a block is not refused by 23 or 24
+verdict_keeps : (o : Option RawData) (c : Course) (x : ℤ) (m : Meaning) (w : Work) (cause : Cause) (n : ℕ)
+    → block_verdict o c x m w ≡ Err cause → loses (refused (OfAxis n (fault_in (Some c) cause))) ≡ false
+verdict_keeps None c x m w cause n e = grind arith
+verdict_keeps (Some d) c x m w cause n e = grind arith
+
+begun_refused : (v : Result Aim Cause) (c : Course) (n : ℕ) (f : Fault) (a : AxisState)
+    → ((cause : Cause) → v ≡ Err cause → loses (refused (OfAxis n (fault_in (Some c) cause))) ≡ false)
+    → at_axis n (done_or (begun_reply v c)) ≡ refused f
+    → TickRefused f a (with_values (begun_with v a.status.machine c a.status.work) a)
+begun_refused (Ok aim) c n f a h e = absurd (cc)
+begun_refused (Err cause) c n f a h e =
+    let b = with_values (begun_with (Err cause) a.status.machine c a.status.work) a in
+    of_refusal (λ (g : Fault). TickRefused g a b) _ f e
+    record { at_once = λ z. absurd (false≢true (sym (h cause refl) ∙ z)); not_taken = λ z. refl }
+
+block_refused : (x : Option ℤ) (c : Course) (n : ℕ) (f : Fault) (a : AxisState)
+    → at_axis n (done_or (block_reply x c a.drive a.status.machine a.status.work)) ≡ refused f
+    → TickRefused f a (with_values (block_run x c a.drive a.status.machine a.status.work) a)
+block_refused None c n f a e = absurd (cc)
+block_refused (Some x) c n f a e =
+    let v = block_verdict a.status.machine c x a.drive a.status.work in
+    begun_refused v c n f a (λ cause. verdict_keeps a.status.machine c x a.drive a.status.work cause n) e
+
+next_refused : (b : Option Block) (c : Course) (n : ℕ) (f : Fault) (a : AxisState)
+    → at_axis n (done_or (next_reply b c a.drive a.status.machine a.status.work)) ≡ refused f
+    → TickRefused f a (with_values (next_run b c a.drive a.status.machine a.status.work) a)
+next_refused None c n f a e = absurd (cc)
+next_refused (Some b) c n f a e = block_refused b.target (with_words b c) n f a e
+
+-- by what the axis is doing
+tick_refused : (ph : Phase) (p : Programs) (n : ℕ) (f : Fault) (a : AxisState) → a.status.work.phase ≡ ph
+    → at_axis n (done_or (tick_reply_at ph p a)) ≡ refused f → TickRefused f a (tick_at ph p a)
+tick_refused standing p n f a q e = absurd (cc)
+tick_refused (moving t) p n f a q e =
+    stopped_refused (trouble_of t a) t n f a _ (inl q) (λ cause. trouble_loses t a cause n) e
+tick_refused (braking t) p n f a q e =
+    stopped_refused (trouble_of t a) t n f a _ (inr q) (λ cause. trouble_loses t a cause n) e
+tick_refused (held c u) p n f a q e = absurd (cc)
+tick_refused (between c) p n f a q e = next_refused (next_block p c) c n f a e
+
+-- AN ACT
+act_refused : (act : Act) (p : Programs) (n : ℕ) (f : Fault) (a : AxisState) → at_axis n (answered act p a) ≡ refused f
+    → ActRefused act f a (acted act p a)
+act_refused (Enter raw) p n f a e = unless_refused (enter_no raw a.status) n f a _ e
+act_refused Delete p n f a e = unless_refused (delete_no a.status) n f a _ e
+act_refused (Order o) p n f a e = order_refused (verdict o p a.drive a.status) o n f a e
+act_refused (Level l) p n f a e = absurd (cc)
+act_refused Tick p n f a e = tick_refused a.status.work.phase p n f a refl e
+act_refused Observe p n f a e = absurd (cc)
+
+-- an axis that is named or not
+named_refused : (b : Bool) (act : Act) (p : Programs) (n : ℕ) (f : Fault) (a : AxisState)
+    → (b ≡ true → at_axis n (answered act p a) ≡ refused f) → ActRefusedIf b act f a (if_named b act p a)
+named_refused true act p n f a e = act_refused act p n f a (e refl)
+named_refused false act p n f a e = refl
+
+-- each of the three
+each_refused : (w : Which) (axis : ℕ) (act : Act) (s : Machine) (f : Fault) → reply (OnAxis axis act) s ≡ refused f
+    → ActRefusedIf (eqb axis (number w)) act f (axis_at w s) (axis_at w (step (OnAxis axis act) s))
+each_refused first axis act s f e =
+    named_refused (eqb axis 1) act s.programs 1 f s.first (λ q. sym (reply_of first axis act s (eqb-true axis 1 q)) ∙ e)
+each_refused second axis act s f e =
+    named_refused (eqb axis 2) act s.programs 2 f s.second (λ q. sym (reply_of second axis act s (eqb-true axis 2 q)) ∙ e)
+each_refused third axis act s f e =
+    named_refused (eqb axis 3) act s.programs 3 f s.third (λ q. sym (reply_of third axis act s (eqb-true axis 3 q)) ∙ e)
+
+-- THE STORE
+
+-- opening
+open_refused : (o : Option StoreFault) (n : ℕ) (m : Measure) (f : Fault) (s : Machine) → at_store (entry.asked o) ≡ refused f
+    → with_programs (entry.opened_unless o n m s.programs) s ≡ s
+open_refused None n m f s e = absurd (cc)
+open_refused (Some x) n m f s e = refl
+
+-- adding a line: one that is refused adds no block
+line_refused : (r : Result (Option Block) LineFault) (p : Program) (f : Fault) (s : Machine) → s.programs.entry ≡ Some p
+    → at_store (line_reply r) ≡ refused f → with_programs (entry.entered (joined_to r p) s.programs) s ≡ s
+line_refused (Ok b) p f s h e = absurd (cc)
+line_refused (Err x) p f s h e = ap (λ (o : Option Program). with_programs (record s.programs { entry = o }) s) (sym h)
+
+add_by : (b : Bool) (p : Program) (n : ℕ) (line : List ℕ) (f : Fault) (s : Machine) → s.programs.entry ≡ Some p
+    → at_store (cond b (line_reply (read p line)) (Err (NotOpen n))) ≡ refused f
+    → with_programs (cond b (entry.entered (joined_to (read p line) p) s.programs) s.programs) s ≡ s
+add_by true p n line f s h e = line_refused (read p line) p f s h e
+add_by false p n line f s h e = refl
+
+add_refused : (o : Option Program) (n : ℕ) (line : List ℕ) (f : Fault) (s : Machine) → s.programs.entry ≡ o
+    → at_store (entry.add_reply_to o n line) ≡ refused f → with_programs (entry.added_to o n line s.programs) s ≡ s
+add_refused None n line f s h e = refl
+add_refused (Some p) n line f s h e = add_by (eqb p.number n) p n line f s h e
+
+-- closing: 35 ends the entry, 30 does not
+abbrev Closed : Fault → Machine → Programs → Type 0
+Closed f s p = with_programs p s ≡ cond (eqb (number_of f) 35) (without_entry s) s
+
+end_refused : (c : Bool) (p : Program) (n : ℕ) (f : Fault) (s : Machine) → at_store (cond c (Ok tt) (Err (NotClosable n))) ≡ refused f
+    → Closed f s (record { stored = cond c (s.programs.stored ++ p ∷ []) s.programs.stored; entry = None })
+end_refused true p n f s e = absurd (cc)
+end_refused false p n f s e =
+    of_refusal (λ (g : Fault). Closed g s (record { stored = s.programs.stored; entry = None })) _ f e refl
+
+not_open : (n : ℕ) (f : Fault) (s : Machine) → refused (OfStore (NotOpen n)) ≡ refused f → Closed f s s.programs
+not_open n f s e = of_refusal (λ (g : Fault). Closed g s s.programs) _ f e refl
+
+close_by : (b : Bool) (p : Program) (n : ℕ) (f : Fault) (s : Machine)
+    → at_store (cond b (entry.end_reply p n) (Err (NotOpen n))) ≡ refused f
+    → Closed f s (cond b (entry.ended_with p s.programs) s.programs)
+close_by true p n f s e = end_refused (closable p.blocks) p n f s e
+close_by false p n f s e = not_open n f s e
+
+close_refused : (o : Option Program) (n : ℕ) (f : Fault) (s : Machine) → at_store (entry.close_reply_of o n) ≡ refused f
+    → Closed f s (entry.closed_from o n s.programs)
+close_refused None n f s e = not_open n f s e
+close_refused (Some p) n f s e = close_by (eqb p.number n) p n f s e
+
+-- abandoning
+abandon_refused : (b : Bool) (n : ℕ) (f : Fault) (s : Machine) → at_store (cond b (Ok tt) (Err (NotOpen n))) ≡ refused f
+    → with_programs (cond b (record { stored = s.programs.stored; entry = None }) s.programs) s ≡ s
+abandon_refused true n f s e = absurd (cc)
+abandon_refused false n f s e = refl
+
+-- deleting a program
+deletion_refused : (b c : Bool) (n : ℕ) (p : Programs) (f : Fault) (s : Machine)
+    → cond b (cond c (refused (InUse n)) done) (refused (OfStore (NotStored n))) ≡ refused f
+    → cond b (cond c s (with_programs p s)) s ≡ s
+deletion_refused true true n p f s e = refl
+deletion_refused true false n p f s e = absurd (cc)
+deletion_refused false c n p f s e = refl
+
+-- THE LAW
+pub refusals : Refusals
+refusals (OnAxis axis act) s f e = record { axes = λ w. each_refused w axis act s f e; programs = refl }
+refusals (Open n m) s f e = open_refused (entry.first_no (entry.open_questions n s.programs)) n m f s e
+refusals (Add n line) s f e = add_refused s.programs.entry n line.now f s refl e
+refusals (Close n) s f e = close_refused s.programs.entry n f s e
+refusals (Abandon n) s f e = abandon_refused (entry.open_one n s.programs.entry) n f s e
+refusals (DeleteProgram n) s f e =
+    deletion_refused (is_some (found n s.programs.stored)) (in_use n s) n (entry.deleted n s.programs) f s e
