@@ -14,6 +14,7 @@ use Rattle.store.specs.Programs.{Program, Programs, found, without, read}
 use Rattle.store.specs.Closing.{ends, fits_at, is_empty, each_fits, closable}
 use Rattle.store.specs.Entry.{first_no, open_questions, open_reply, opened_unless, added_to, add_reply_to, closed_from, abandoned}
 use Rattle.store.specs.Laws.{Call, after, motion_after, EndsOnce, Fed, Runs, Changes}
+use Rattle.store.proofs.Closings.{each_ends, each_fed}
 use Rattle.store.proofs.Histories.{Sound, held, all_found}
 
 -- 28 comes only with sixteen stored
@@ -34,55 +35,6 @@ entry-full cs n line (Some p) e r =
     let most : length p.blocks ≤ 64 = ((held cs).entry p e).1 in
     let least : 64 ≤ length p.blocks = read-full p line (refused n line p r) in
     (p, e, omega (arith, most, least))
-
--- the closing question says what it should
-abbrev feed_after : Option ℕ → List Block → Option ℕ
-feed_after f [] = f
-feed_after f (b ∷ bs) = feed_after (option_or b.feed f) bs
-
-fits_there : (g : Motion) (f : Option ℕ) (front : List Block) (b : Block) (later : List Block) → each_fits g f (front ++ b ∷ later) ≡ true → fits_at (is_empty later) (motion_after g (front ++ b ∷ [])) (feed_after f (front ++ b ∷ [])) b ≡ true
-fits_there g f [] b later e = (and_parts (fits_at (is_empty later) (unwrap_or b.motion g) (option_or b.feed f) b) (each_fits (unwrap_or b.motion g) (option_or b.feed f) later) e).0
-fits_there g f (x ∷ front) b later e =
-    fits_there (unwrap_or x.motion g) (option_or x.feed f) front b later (and_parts (fits_at (is_empty (front ++ b ∷ later)) (unwrap_or x.motion g) (option_or x.feed f) x) (each_fits (unwrap_or x.motion g) (option_or x.feed f) (front ++ b ∷ later)) e).1
-
-abbrev GivenIn : List Block → Type 0
-GivenIn bs = (d : List Block) × (e : Block) × (f : List Block) × (bs ≡ d ++ e ∷ f) × (is_some e.feed ≡ true)
-
-feed_here : (b : Block) (bs : List Block) (o : Option ℕ) → b.feed ≡ o → (is_some (feed_after None bs) ≡ true → GivenIn bs) → is_some (feed_after (option_or o None) bs) ≡ true → GivenIn (b ∷ bs)
-feed_here b bs None e more s = let m : GivenIn bs = more s in (b ∷ m.0, m.1, m.2, ap (λ z. b ∷ z) m.3, m.4)
-feed_here b bs (Some x) e more s = ([], b, bs, refl, ap is_some e)
-
-feed_in : (bs : List Block) → is_some (feed_after None bs) ≡ true → GivenIn bs
-feed_in [] s = cc
-feed_in (b ∷ bs) s = feed_here b bs b.feed refl (feed_in bs) s
-
-feed_there : (last : Bool) (g : Motion) (f : Option ℕ) (b : Block) → fits_at last g f b ≡ true → is_some b.target ≡ true → g ≡ Feed → is_some f ≡ true
-feed_there last g f b e x m = grind arith
-
-each_fed : (bs : List Block) → closable bs ≡ true → Fed bs
-each_fed bs e a b c split x g =
-    let all : each_fits Rapid None bs ≡ true = (and_parts (not (is_empty bs)) (each_fits Rapid None bs) e).1 in
-    let here : fits_at (is_empty c) (motion_after Rapid (a ++ b ∷ [])) (feed_after None (a ++ b ∷ [])) b ≡ true = fits_there Rapid None a b c (subst (λ z. each_fits Rapid None z ≡ true) split all) in
-    feed_in (a ++ b ∷ []) (feed_there (is_empty c) (motion_after Rapid (a ++ b ∷ [])) (feed_after None (a ++ b ∷ [])) b here x g)
-
-none_before : (a : List Block) (b : Block) (c : List Block) → [] ≡ a ++ b ∷ c → ends b ≡ false
-none_before [] b c e = cc
-none_before (x ∷ a) b c e = cc
-
-one-before : (y : Block) (front : List Block) → ends y ≡ false → ((a : List Block) (b : Block) (c : List Block) → front ≡ a ++ b ∷ c → ends b ≡ false) → (a : List Block) (b : Block) (c : List Block) → y ∷ front ≡ a ++ b ∷ c → ends b ≡ false
-one-before y front n more [] b c e = grind arith
-one-before y front n more (x ∷ a) b c e = grind arith
-
-ends_later : (b : Block) (bs : List Block) → ends b ≡ false → EndsOnce bs → EndsOnce (b ∷ bs)
-ends_later b bs on more = (b ∷ more.0, more.1, ap (λ z. b ∷ z) more.2, more.3, one-before b more.0 on more.4)
-
-ends_once : (g : Motion) (f : Option ℕ) (b : Block) (bs : List Block) → each_fits g f (b ∷ bs) ≡ true → EndsOnce (b ∷ bs)
-ends_once g f b [] e = let last : ends b ≡ true = grind arith in ([], b, refl, last, none_before)
-ends_once g f b (c ∷ bs) e = ends_later b (c ∷ bs) (grind arith) (ends_once (unwrap_or b.motion g) (option_or b.feed f) c bs (grind arith))
-
-each_ends : (bs : List Block) → closable bs ≡ true → EndsOnce bs
-each_ends [] e = cc
-each_ends (b ∷ bs) e = ends_once Rapid None b bs e
 
 pub runs : Runs
 runs cs = record {

@@ -1,3 +1,4 @@
 mod Tables
+pub mod Closings
 pub mod Histories
 pub mod Laws

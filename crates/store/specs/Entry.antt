@@ -53,6 +53,10 @@ abbrev pub open_one : ℕ → Option Program → Bool
 open_one n None = false
 open_one n (Some p) = p.number == n
 
+abbrev pub entry_of : ℕ → Option Program → Result Program StoreFault
+entry_of n None = Err (NotOpen n)
+entry_of n (Some p) = cond (p.number == n) (Ok p) (Err (NotOpen n))
+
 -- adding a line
 abbrev pub add_reply_to : Option Program → ℕ → List ℕ → Result (Unit {0}) StoreFault
 add_reply_to None n line = Err (NotOpen n)

@@ -7,7 +7,7 @@ use Rattle.reader.specs.declared.block.Motion.TheVariants.{Rapid, Feed}
 use Rattle.reader.specs.declared.block.Block.{Block}
 use Rattle.reader.specs.declared.fault.LineFault.{LineFault}
 use Rattle.reader.specs.declared.fault.LineFault.TheVariants.{ProgramFull}
-use Rattle.store.specs.declared.fault.StoreFault.TheVariants.{StoreFull, Line}
+use Rattle.store.specs.declared.fault.StoreFault.TheVariants.{StoreFull, Line, NotClosable}
 use Rattle.store.specs.Programs.{Program, Programs, empty, found, read}
 use Rattle.store.specs.Closing.{ends}
 use Rattle.store.specs.Entry.{open_reply, opened, open_one, add_reply, added, close_reply, closed, abandoned, deleted}
@@ -114,3 +114,10 @@ pub record Changes : Type 0 where
   pub abandoning_keeps : (n : ℕ) (s : Programs) → (abandoned n s).stored ≡ s.stored
   pub closing_keeps : (n k : ℕ) (s : Programs) → (k ≢ n) → found k (closed n s).stored ≡ found k s.stored
   pub deleting_keeps : (n k : ℕ) (s : Programs) → (k ≢ n) → found k (deleted n s).stored ≡ found k s.stored
+
+-- closing the open entry of a number stores its program where its blocks end once and are fed; 35 comes for no other reason
+pub record Closes : Type 0 where
+  pub stored : (n : ℕ) (p : Program) (s : Programs) → s.entry ≡ Some p → p.number ≡ n → EndsOnce p.blocks → Fed p.blocks
+      → (close_reply n s ≡ Ok tt) × (closed n s ≡ record { stored = s.stored ++ p ∷ []; entry = None })
+  pub refused : (n k : ℕ) (s : Programs) → close_reply n s ≡ Err (NotClosable k)
+      → (p : Program) × (s.entry ≡ Some p) × (EndsOnce p.blocks → Fed p.blocks → ⊥)

@@ -15,6 +15,7 @@ impl Record {
 
 // Whether the blocks end as a program must: the run is followed block by block
 // with the motion group and the feed that would then hold.
+#[tactic(auto, using(crate::proofs::Closings::misfit))]
 fn may_close(blocks: &[Block]) -> bool
     ensures { result ≡ closable blocks.now }
 {
@@ -22,13 +23,11 @@ fn may_close(blocks: &[Block]) -> bool
         motion: Motion::Rapid,
         feed: None,
     };
-    let mut rest = blocks;
-    while let Some((block, later)) = rest.split_first() {
+    for (index, block) in blocks.iter().enumerate() {
         holding = holding.in_block(block);
-        if !holding.admits(block, later.is_empty()) {
+        if !holding.admits(block, index + 1 == blocks.len()) {
             return false;
         }
-        rest = later;
     }
     !blocks.is_empty()
 }

@@ -62,9 +62,8 @@ impl Store {
         ensures after { self.new ≡ opened number measure self.old }
     {
         self.ask_opening(number)?;
-        let mut record = self.free.pop().unwrap();
-        record.begin(number, measure);
-        self.entry = Some(record);
+        self.entry = self.free.pop();
+        self.open_entry_mut().begin(number, measure);
         Ok(())
     }
 
@@ -74,8 +73,7 @@ impl Store {
         ensures value { result ≡ add_reply number line.now self.old }
         ensures after { self.new ≡ added number line.now self.old }
     {
-        self.ask_entry(number)?;
-        self.entry.as_mut().unwrap().add(line)
+        self.entry_mut(number)?.add(line)
     }
 
     /// Closes the entry that a number names.
@@ -133,15 +131,5 @@ impl Store {
             return Err(StoreFault::EntryOpen(number));
         }
         Ok(())
-    }
-
-    // The question of 30: whether the entry that a number names is the open one.
-    fn ask_entry(&self, number: u8) -> Result<(), StoreFault>
-        ensures { result ≡ cond (open_one number self.now.entry) (Ok tt) (Err (NotOpen number)) }
-    {
-        match &self.entry {
-            Some(record) if record.number() == number => Ok(()),
-            _ => Err(StoreFault::NotOpen(number)),
-        }
     }
 }

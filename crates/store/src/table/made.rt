@@ -1,6 +1,6 @@
 ghost use Rattle.std.specs.Prelude.{◌≡◌, ◌≤◌, IfOk, vec_len, vec_capacity};
 ghost use Rattle.store.specs.Programs.{empty};
-ghost use Rattle.store.specs.Laws.{Runs, Changes};
+ghost use Rattle.store.specs.Laws.{Runs, Changes, Closes};
 
 use crate::record::Record;
 use crate::table::{MOST_PROGRAMS, Store};
@@ -8,12 +8,13 @@ use std::alloc::{AllocError, Global};
 
 impl Store {
     /// An empty store. This is the only call that takes memory. Whatever calls
-    /// follow, the laws of runs and of changes hold.
-    #[tactic(auto, using(crate::proofs::Laws::changes))]
+    /// follow, the laws of runs, of changes and of closing hold.
+    #[tactic(auto, using(crate::proofs::Laws::changes, crate::proofs::Closings::closes))]
     pub fn new(heap: Global) -> Result<Store, AllocError>
         ensures made { IfOk result (λ s. s ≡ empty) }
         ensures runs { Runs }
         ensures changes { Changes }
+        ensures closes { Closes }
     {
         let free = free_records(heap)?;
         let stored = Vec::with_capacity(heap, MOST_PROGRAMS)?;
