@@ -1,5 +1,5 @@
 -- The closing question, followed block by block, says what it should.
-use Rattle.std.proofs.Common.{◌≡◌, ℕ, suc, ◌+◌, ◌-◌, ◌<◌, Bool, true, false, cond, not, ◌&&◌, eqb, List, [], ◌∷◌, ◌++◌, length, get_or, drop, is_some, Some, None, Ok, Err, Option, unwrap_or, sym, refl, ap, ◌∙◌, subst, inl, inr, arith}
+use Rattle.std.proofs.Common.{◌≡◌, ℕ, suc, ◌+◌, ◌-◌, ◌<◌, Bool, true, false, not, eqb, List, [], ◌∷◌, ◌++◌, length, get_or, drop, is_some, Some, None, Ok, Err, Option, unwrap_or, sym, refl, ap, ◌∙◌, subst, inl, inr, arith}
 use Rattle.std.specs.Option.{option_or}
 use Rattle.std.proofs.lemmas.List.{at_drop_more, length-drop}
 use Rattle.std.proofs.lemmas.Bool.{and_parts, cases_lt, eq-eqb, ne_eqb}
@@ -131,7 +131,7 @@ all_fit g f (y ∷ front) last e before h =
     let more : is_empty (front ++ last ∷ []) ≡ false = more_there front last in
     let here : fits_at false (unwrap_or y.motion g) (option_or y.feed f) y ≡ true = fits_before (unwrap_or y.motion g) (option_or y.feed f) y (before [] y front refl) (h [] y (front ++ last ∷ []) refl) in
     let later : each_fits (unwrap_or y.motion g) (option_or y.feed f) (front ++ last ∷ []) ≡ true =
-        all_fit (unwrap_or y.motion g) (option_or y.feed f) front last e (λ a b c s. before (y ∷ a) b c (ap (λ z. y ∷ z) s)) (λ a b c s. h (y ∷ a) b c (ap (λ z. y ∷ z) s)) in
+    all_fit (unwrap_or y.motion g) (option_or y.feed f) front last e (λ a b c s. before (y ∷ a) b c (ap (λ z. y ∷ z) s)) (λ a b c s. h (y ∷ a) b c (ap (λ z. y ∷ z) s)) in
     grind arith
 
 may_close : (bs : List Block) → EndsOnce bs → Fed bs → closable bs ≡ true

@@ -1,19 +1,14 @@
 -- The laws over runs.
-use Rattle.std.proofs.Common.{◌≡◌, ℕ, ◌≤◌, Bool, true, false, cond, not, eqb, List, [], ◌∷◌, ◌++◌, length, is_some, Some, None, Err, Option, unwrap_or, refl, ap, subst, arith}
-use Rattle.std.specs.Option.{option_or}
+use Rattle.std.proofs.Common.{◌≡◌, ℕ, ◌≤◌, true, false, cond, eqb, List, [], ◌∷◌, ◌++◌, length, Some, None, Err, Option, refl, arith}
 use Rattle.std.proofs.lemmas.Bool.Decides.{nat_tests}
-use Rattle.std.proofs.lemmas.Bool.{and_parts}
 use Rattle.units.specs.declared.Measure.{Measure}
-use Rattle.reader.specs.declared.block.Motion.{Motion}
-use Rattle.reader.specs.declared.block.Motion.TheVariants.{Rapid, Feed}
-use Rattle.reader.specs.declared.block.Block.{Block}
 use Rattle.reader.specs.declared.fault.LineFault.TheVariants.{ProgramFull}
 use Rattle.store.specs.declared.fault.StoreFault.{StoreFault}
 use Rattle.store.specs.declared.fault.StoreFault.TheVariants.{StoreFull, Line}
 use Rattle.store.specs.Programs.{Program, Programs, found, without, read}
-use Rattle.store.specs.Closing.{ends, fits_at, is_empty, each_fits, closable}
+use Rattle.store.specs.Closing.{closable}
 use Rattle.store.specs.Entry.{first_no, open_questions, open_reply, opened_unless, added_to, add_reply_to, closed_from, abandoned}
-use Rattle.store.specs.Laws.{Call, after, motion_after, EndsOnce, Fed, Runs, Changes}
+use Rattle.store.specs.Laws.{Call, after, Runs, Changes}
 use Rattle.store.proofs.Closings.{each_ends, each_fed}
 use Rattle.store.proofs.Histories.{Sound, held, all_found}
 
