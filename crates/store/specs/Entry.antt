@@ -53,6 +53,7 @@ abbrev pub open_one : ℕ → Option Program → Bool
 open_one n None = false
 open_one n (Some p) = p.number == n
 
+-- the open entry if it is that of a number, else 30
 abbrev pub entry_of : ℕ → Option Program → Result Program StoreFault
 entry_of n None = Err (NotOpen n)
 entry_of n (Some p) = cond (p.number == n) (Ok p) (Err (NotOpen n))

@@ -7,7 +7,7 @@ use Rattle.store.specs.contracts.table.Store as lender
 use Rattle.store.specs.Programs.{Program, Programs}
 use Rattle.store.specs.Entry.{entered}
 
--- the record that is lent, as it stands
+-- the record that is lent, as it stands, or the fault
 abbrev pub lent_now : Result (MutBor Program) StoreFault → Result Program StoreFault
 lent_now (Ok r) = Ok r.now
 lent_now (Err f) = Err f
