@@ -5,7 +5,6 @@ use crate::direction::Direction;
 use crate::drive::Drive;
 
 /// Something that is asked of a drive.
-// Data and no closure: the law over all lists of acts reads them.
 #[derive(Clone, Copy, PartialEq, Eq, Debug)]
 pub enum Act {
     Pulse(Direction),

@@ -8,7 +8,7 @@ use crate::machine::MachineData;
 // A place on the ramp: a step, with the sum over the steps up to it, so that no tick sums the ramp.
 #[derive(Clone, Copy)]
 pub(crate) struct Place {
-    // 0 before the first step, where braking comes down to again: a number of the rules like the others
+    // 0 before the first step, where braking comes down to again
     pub(crate) step: u32,
     pub(crate) sum: u64,
 }
@@ -19,7 +19,6 @@ impl Place {
 }
 
 /// Machine data with the numbers of a move in progress.
-// Ghost fields and no model: the law over all movers rests on them.
 #[derive(Drop)]
 pub struct Mover {
     pub(crate) machine: MachineData,
@@ -32,7 +31,6 @@ pub struct Mover {
     pub(crate) begun: u32,
     // where the last tick was
     pub(crate) place: Place,
-    // the machine is seen by its values alone, so what is true of them is said here
     ghost valid: { Valid machine },
     ghost slowest: { 1 ≤ rate },
     ghost fastest: { rate ≤ machine.fm },

@@ -3,8 +3,8 @@
 pub struct Passed {
     /// how many pulses to send
     pub pulses: u64,
-    /// the axis stands: the move is complete, or braking has stopped it short.
-    // No option: the tick that ends a move may send pulses too.
+    /// the axis stands: the move is complete, or braking has stopped it short;
+    /// the tick that ends a move may send pulses too
     pub ended: bool,
 }
 

@@ -121,7 +121,6 @@ impl Mover {
     // A tick at a place; with none the move is complete.
     fn run(&mut self, place: Option<Place>) -> Passed
         requires { PlaceRuns (mover_ramp self.old) (going_of self.old) place }
-        // a fact of before and after the call, and so none of the type
         ensures same { mover_data self.new ≡ mover_data self.old }
         ensures after { going_of self.new ≡ run_at (mover_ramp self.old) (going_of self.old) place }
         ensures value { result ≡ passing (going_of self.old) (going_of self.new) }

@@ -10,8 +10,7 @@ use crate::fault::StoreFault;
 #[must_use]
 #[derive(Debug)]
 pub struct Entry {
-    // Named in the clauses of the calls, and no field for hosts: only an opening
-    // makes a token.
+    // Only an opening makes a token.
     pub(crate) number: u8,
 }
 

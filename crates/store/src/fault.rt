@@ -67,7 +67,7 @@ impl StoreFault {
     }
 }
 
-// By hand: the clauses of the calls name the fault that a line's becomes.
+/// The fault of a line that the store is given, as it is.
 impl From<LineFault> for StoreFault {
     ghost from_gives = { λ e r. r ≡ Line e };
 

@@ -11,7 +11,6 @@ pub const FARTHEST: i64 = 1_000_000_000_000;
 
 /// The stage at the bottom: it gives each pulse to the motor as a clock edge and
 /// keeps the direction level beside it. Its ends are the widest.
-// No model: a host sees any drive by its meaning, and the clauses here name the fields that it is made of.
 #[derive(Debug, Drop)]
 pub struct ClockStage {
     count: i64,

@@ -17,7 +17,6 @@ pub struct Counts {
 
 /// A layer over any drive that takes up the play of its screw: where a pulse
 /// turns the flank, the play is sent below first.
-// No model, for the reason at the clock stage.
 #[derive(Debug, Drop)]
 pub struct TakeUp<D: Drive> {
     below: D,

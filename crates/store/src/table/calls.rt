@@ -9,7 +9,6 @@ use units::Measure;
 
 // Each call on an entry has two forms, by token and by number: a token is spent
 // or handed back, a number is neither. The rules are in the calls by number.
-// An opening alone takes both a number and a measure, so they have no type of their own.
 impl Store {
     /// Opens the entry of a program and gives its token.
     pub fn open(&mut self, number: u8, measure: Measure) -> Result<Entry, StoreFault>

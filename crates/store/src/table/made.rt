@@ -26,8 +26,8 @@ impl Store {
     }
 }
 
-// As many free records as there are ever programs. Pushed one by one, since a
-// collected vector promises no capacity.
+// As many free records as there are ever programs, in a vector that has room for
+// all of them.
 fn free_records(heap: Global) -> Result<Vec<Record>, AllocError>
     ensures { IfOk result (λ free. (vec_len free ≡ MOST_PROGRAMS) × (MOST_PROGRAMS ≤ vec_capacity free)) }
 {
