@@ -1,16 +1,16 @@
 -- How a line is cut at its first byte.
-use Rattle.std.proofs.Common.{◌≡◌, ℕ, zero, suc, ◌+◌, ◌<◌, ◌≤◌, Bool, true, false, cond, eqb, List, [], ◌∷◌, length, take, drop, Some, Ok, Err, Option, Result, sym, refl, ap, ◌∙◌, subst, arith}
+use Rattle.std.proofs.Common.{◌≡◌, ℕ, zero, suc, ◌+◌, ◌<◌, ◌≤◌, true, eqb, List, [], ◌∷◌, length, take, drop, Some, Ok, Err, Option, Result, sym, refl, ap, ◌∙◌, subst, arith}
 use Rattle.std.specs.List.{prefix_len}
 use Rattle.std.proofs.lemmas.List.{length-drop, drop-drop}
-use Rattle.std.proofs.lemmas.Bool.{cond-true, cond-false, ne_eqb}
+use Rattle.std.proofs.lemmas.Bool.{cond-false, ne_eqb}
 use Rattle.std.proofs.lemmas.Bool.Decides.{nat_tests}
 use Rattle.units.specs.declared.Measure.{Measure}
-use Rattle.reader.specs.declared.fault.LineFault.{LineFault}
+use Rattle.reader.specs.declared.fault.WordFault.{WordFault}
 use Rattle.reader.specs.declared.part.Letter.{Letter}
 use Rattle.reader.specs.declared.part.Part.{Part}
 use Rattle.reader.specs.declared.rest.Rest.{Rest}
 use Rattle.reader.specs.Words.{numeric, letter_of, formed}
-use Rattle.reader.specs.Lines.{Piece, word, remark, part, inside, closed_at, remark_in, opened, taken, onward, blank, cut, left, Begins}
+use Rattle.reader.specs.Lines.{Piece, word, remark, part, inside, closed_at, remark_in, opened, taken, onward, cut, left, Begins}
 
 pub cut_skip : (m : Measure) (k at : ℕ) (xs : List ℕ) → cut m k at xs ≡ cut m 0 (at + k) (drop k xs)
 cut_skip m zero at [] = refl
@@ -63,21 +63,12 @@ cut_word m at n to b l xs number bytes g h i p q e w le f =
 pub closed_is : (n : ℕ) (xs : List ℕ) → closed_at xs ≡ Some n → (n ≡ prefix_len inside xs) × (n < length xs)
 closed_is n xs e = (grind (arith, nat_tests), grind (arith, nat_tests))
 
--- a line is cut as what is left of it after its blanks
-blanks_by : (m : Measure) (at b : ℕ) (bs : List ℕ) (v : Bool) → blank b ≡ v → cut m 0 (suc at) bs ≡ cut m 0 (suc at + prefix_len blank bs) (drop (prefix_len blank bs) bs) → cut m 0 at (b ∷ bs) ≡ cut m 0 (at + cond v (1 + prefix_len blank bs) 0) (drop (cond v (1 + prefix_len blank bs) 0) (b ∷ bs))
-blanks_by m at b bs true e i =
-    let one : suc (prefix_len blank bs) ≡ 1 + prefix_len blank bs = omega arith in
-    cond-true _ _ _ e ∙ i ∙ ap (λ a. cut m 0 a (drop (prefix_len blank bs) bs)) (omega arith)
-    ∙ ap (λ k. cut m 0 (at + (1 + prefix_len blank bs)) (drop k (b ∷ bs))) one
-blanks_by m at b bs false e i = ap (λ a. cut m 0 a (b ∷ bs)) (omega arith)
+-- a line is cut as what is left of it after a blank
+pub left_blank : (r s : Rest) → r.bytes.now ≡ 32 ∷ s.bytes.now → s.at ≡ r.at + 1 → s.measure ≡ r.measure → left r ≡ left s
+left_blank r s e a m =
+    let one : suc r.at ≡ s.at = omega (arith, a) in
+    ap (cut r.measure 0 r.at) e ∙ ap (λ k. cut r.measure 0 k s.bytes.now) one ∙ ap (λ n. cut n 0 s.at s.bytes.now) (sym m)
 
-pub cut_blanks : (m : Measure) (at : ℕ) (xs : List ℕ) → cut m 0 at xs ≡ cut m 0 (at + prefix_len blank xs) (drop (prefix_len blank xs) xs)
-cut_blanks m at [] = refl
-cut_blanks m at (b ∷ bs) = blanks_by m at b bs (blank b) refl (cut_blanks m (suc at) bs)
-
-pub left_start : (r s : Rest) (k : ℕ) → k ≡ prefix_len blank r.bytes.now → s.bytes.now ≡ drop k r.bytes.now → s.at ≡ r.at + k → s.measure ≡ r.measure → left r ≡ left s
-left_start r s k n b a m = cut_blanks r.measure r.at r.bytes.now ∙ cc
-
-pub begins_start : (m : Measure) (r s : Rest) (b : ℕ) (ys : List ℕ) (o : Result (Part × Rest) LineFault) → m ≡ s.measure → left r ≡ left s → s.at + length s.bytes.now ≡ r.at + length r.bytes.now → length s.bytes.now ≤ length r.bytes.now → s.bytes.now ≡ b ∷ ys → Begins m s.at (b ∷ ys) o → Begins r.measure r.at r.bytes.now o
-begins_start m r s b ys (Err f) is same end le e i = (i.0, same ∙ ap (cut s.measure 0 s.at) e ∙ ap (λ n. cut n 0 s.at (b ∷ ys)) (sym is) ∙ i.1, i.2)
+pub begins_start : (m : Measure) (r s : Rest) (b : ℕ) (ys : List ℕ) (o : Result (Part × Rest) WordFault) → m ≡ s.measure → left r ≡ left s → s.at + length s.bytes.now ≡ r.at + length r.bytes.now → length s.bytes.now ≤ length r.bytes.now → s.bytes.now ≡ b ∷ ys → Begins m s.at (b ∷ ys) o → Begins r.measure r.at r.bytes.now o
+begins_start m r s b ys (Err f) is same end le e i = (same ∙ ap (cut s.measure 0 s.at) e ∙ ap (λ n. cut n 0 s.at (b ∷ ys)) (sym is) ∙ i.0, i.1)
 begins_start m r s b ys (Ok n) is same end le e i = (same ∙ ap (cut s.measure 0 s.at) e ∙ ap (λ n. cut n 0 s.at (b ∷ ys)) (sym is) ∙ i.0, omega (arith, i.1, end, ap length e), omega (arith, i.2, le, ap length e))

@@ -13,8 +13,10 @@ use Rattle.reader.specs.declared.block.Value.TheVariants as value
 use Rattle.reader.specs.declared.block.Block.{Block}
 use Rattle.reader.specs.declared.fault.LineFault.{LineFault}
 use Rattle.reader.specs.declared.fault.LineFault.TheVariants.{Form, Order, Range}
+use Rattle.reader.specs.declared.fault.WordFault.{WordFault}
 use Rattle.reader.specs.declared.rest.Rest.{Rest}
 use Rattle.reader.specs.declared.summary.Summary.{Summary}
+use Rattle.reader.specs.Faults.{line_fault}
 use Rattle.reader.specs.Words.{rank, onto, preparatory, same_group, units_of, upto, within, value_of}
 use Rattle.reader.specs.Lines.{Piece, word, remark, Cut, end, part, broken, pieces, fault_in, left, Begins}
 use Rattle.reader.specs.Questions.{start_of, first_bad, words_clash, clash, misplaced, outside, empty, holding, more, said, block_from, asks, judged}
@@ -160,17 +162,26 @@ asked_next m s ps p c h =
     let z = block_next m s p in
     cc
 
-ended : (s : Summary) → asks (otherwise s.misplaced None) Order (asks (otherwise s.outside None) Range (Ok s.block)) ≡ answered s
+-- the answer of a line, from that of its words
+abbrev pub in_line : Result (Option Block) WordFault → Result (Option Block) LineFault
+in_line (Ok o) = Ok o
+in_line (Err f) = Err (line_fault f.cause f.at)
+
+ended : (s : Summary) → asks (otherwise s.misplaced None) Order (asks (otherwise s.outside None) Range (Ok s.block)) ≡ in_line (answered s)
 ended s = grind arith
 
-so_far : (m : Measure) (c : Cut) (s : Summary) (ps : List Piece) → Holds m ps s → asked m s ps c ≡ answered_with m s c
+so_far : (m : Measure) (c : Cut) (s : Summary) (ps : List Piece) → Holds m ps s → asked m s ps c ≡ in_line (answered_with m s c)
 so_far m end s ps h = ended s
 so_far m (part p c) s ps h = asked_next m s ps p c h ∙ so_far m c (added m p s) (ps ++ p ∷ []) (holds_next m ps p s h)
 so_far m (broken at) s ps h = refl
 
-pub one_reading : (m : Measure) (c : Cut) → answered_with m start c ≡ judged m c
+pub one_reading : (m : Measure) (c : Cut) → in_line (answered_with m start c) ≡ judged m c
 one_reading m c = sym (so_far m c start [] (holds_start m))
 
+-- the answer to a line that has no part left
+pub end_reading : (m : Measure) (s : Summary) (c r : Cut) (a : Result (Option Block) WordFault) → a ≡ answered s → r ≡ end → answered_with m s r ≡ answered_with m start c → in_line a ≡ judged m c
+end_reading m s c r a is none same = ap in_line (is ∙ sym (ap (answered_with m s) none) ∙ same) ∙ one_reading m c
+
 -- the answer to a line that is broken off where its next part should start
-pub broken_reading : (m : Measure) (s : Summary) (r : Rest) (e f : LineFault) (a : Result (Option Block) LineFault) → a ≡ Err f → f ≡ e → Begins r.measure r.at r.bytes.now (Err e) → a ≡ answered_with m s (left r)
-broken_reading m s r e f a is same b = is ∙ ap Err (same ∙ b.2) ∙ sym (ap (answered_with m s) b.1)
+pub broken_reading : (m : Measure) (s : Summary) (r : Rest) (e : WordFault) (f : LineFault) (a : Result (Option Block) LineFault) → a ≡ Err f → f ≡ line_fault e.cause e.at → Begins r.measure r.at r.bytes.now (Err e) → a ≡ in_line (answered_with m s (left r))
+broken_reading m s r e f a is same b = is ∙ ap Err (same ∙ ap (λ k. line_fault k e.at) b.1) ∙ sym (ap (λ c. in_line (answered_with m s c)) b.0)

@@ -2,8 +2,8 @@
 use Rattle.std.specs.Prelude.{◌≡◌, ℕ, zero, suc, ◌+◌, ◌<◌, Bool, cond, not, List, [], ◌∷◌, length, take, Some, None, Ok, Err, Option, Result, ◌==◌, nat_lt}
 use Rattle.std.specs.List.{prefix_len}
 use Rattle.units.specs.declared.Measure.{Measure}
-use Rattle.reader.specs.declared.fault.LineFault.{LineFault}
-use Rattle.reader.specs.declared.fault.LineFault.TheVariants.{Form}
+use Rattle.reader.specs.declared.fault.WordCause.TheVariants.{Form}
+use Rattle.reader.specs.declared.fault.WordFault.{WordFault}
 use Rattle.reader.specs.declared.part.Letter.{Letter}
 use Rattle.reader.specs.declared.part.Part.{Part}
 use Rattle.reader.specs.declared.part.Part.TheVariants.{Word, Remark}
@@ -20,9 +20,6 @@ pub data Cut : Type 0 where
   end : Cut
   part : Piece → Cut → Cut
   broken : ℕ → Cut
-
-abbrev pub blank : ℕ → Bool
-blank b = b == 32
 
 -- what may stand in a remark: all but )
 abbrev pub inside : ℕ → Bool
@@ -68,13 +65,18 @@ shown (Remark t at) = remark t.now at
 abbrev pub left : Rest → Cut
 left r = cut r.measure 0 r.at r.bytes.now
 
+-- the first byte of what is left of a line, and what is left after it
+abbrev pub First : Rest → Option (ℕ × Rest) → Type 0
+First r None = r.bytes.now ≡ []
+First r (Some s) = (r.bytes.now ≡ s.0 ∷ s.1.bytes.now) × (s.1.at ≡ r.at + 1) × (s.1.measure ≡ r.measure)
+
 -- the first part of what stands in a line from the byte at on, or the fault that there is none
-abbrev pub Begins : Measure → ℕ → List ℕ → Result (Part × Rest) LineFault → Type 0
-Begins m at xs (Err e) = (to : ℕ) × (cut m 0 at xs ≡ broken to) × (e ≡ Form to)
+abbrev pub Begins : Measure → ℕ → List ℕ → Result (Part × Rest) WordFault → Type 0
+Begins m at xs (Err e) = (cut m 0 at xs ≡ broken e.at) × (e.cause ≡ Form)
 Begins m at xs (Ok n) = (cut m 0 at xs ≡ part (shown n.0) (left n.1)) × (n.1.at + length n.1.bytes.now ≡ at + length xs) × (length n.1.bytes.now < length xs)
 
 -- the next part of what is left of a line, or its end
-abbrev pub Next : Rest → Option (Result (Part × Rest) LineFault) → Type 0
+abbrev pub Next : Rest → Option (Result (Part × Rest) WordFault) → Type 0
 Next r None = left r ≡ end
 Next r (Some o) = Begins r.measure r.at r.bytes.now o
 

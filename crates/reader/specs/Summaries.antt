@@ -7,8 +7,8 @@ use Rattle.reader.specs.declared.block.Preparatory.TheVariants.{OfMotion, OfOffs
 use Rattle.reader.specs.declared.block.Value.{Value}
 use Rattle.reader.specs.declared.block.Value.TheVariants as value
 use Rattle.reader.specs.declared.block.Block.{Block}
-use Rattle.reader.specs.declared.fault.LineFault.{LineFault}
-use Rattle.reader.specs.declared.fault.LineFault.TheVariants.{Form, Order, Range}
+use Rattle.reader.specs.declared.fault.WordCause.TheVariants.{Form, Order, Range}
+use Rattle.reader.specs.declared.fault.WordFault.{WordFault}
 use Rattle.reader.specs.declared.summary.Summary.{Summary}
 use Rattle.reader.specs.Words.{rank, value_of}
 use Rattle.reader.specs.Lines.{Piece, word, remark, Cut, end, part, broken}
@@ -60,19 +60,19 @@ added m (word l n at) s = record { last = Some l; misplaced = first s.misplaced 
 added m (remark t at) s = s
 
 -- the answer to a line with no other part
-abbrev pub answered_by : Option ℕ → Option ℕ → Option Block → Result (Option Block) LineFault
-answered_by (Some at) o b = Err (Order at)
-answered_by None (Some at) b = Err (Range at)
+abbrev pub answered_by : Option ℕ → Option ℕ → Option Block → Result (Option Block) WordFault
+answered_by (Some at) o b = Err (record { cause = Order; at = at })
+answered_by None (Some at) b = Err (record { cause = Range; at = at })
 answered_by None None b = Ok b
 
-abbrev pub answered : Summary → Result (Option Block) LineFault
+abbrev pub answered : Summary → Result (Option Block) WordFault
 answered s = answered_by s.misplaced s.outside s.block
 
 abbrev pub start : Summary
 start = record { last = None; misplaced = None; outside = None; block = None }
 
 -- the answer to a line with what is left of it, from what its words so far come to
-abbrev pub answered_with : Measure → Summary → Cut → Result (Option Block) LineFault
+abbrev pub answered_with : Measure → Summary → Cut → Result (Option Block) WordFault
 answered_with m s end = answered s
 answered_with m s (part p c) = answered_with m (added m p s) c
-answered_with m s (broken at) = Err (Form at)
+answered_with m s (broken at) = Err (record { cause = Form; at = at })

@@ -34,8 +34,7 @@ pub fn read_line(line: &[u8], measure: Measure, blocks: usize) -> Result<Option<
     judge(line, measure, blocks)
 }
 
-// The questions in their order; the limits come before the per cent sign. Apart from `read_line`, whose
-// laws are more than search finds beside the questions.
+// The questions in their order; the limits come before the per cent sign.
 fn judge(line: &[u8], measure: Measure, blocks: usize) -> Result<Option<Block>, LineFault>
     ensures { result ≡ verdict measure blocks line.now }
 {
@@ -45,10 +44,10 @@ fn judge(line: &[u8], measure: Measure, blocks: usize) -> Result<Option<Block>, 
     if blocks >= MOST_BLOCKS {
         return Err(LineFault::ProgramFull);
     }
-    if blocks == 0 && line.starts_with(b"%") {
-        return Ok(None);
+    match line {
+        [b'%', ..] if blocks == 0 => Ok(None),
+        _ => read_words(Rest::of(line, measure)),
     }
-    read_words(Rest::of(line, measure))
 }
 
 // A fault of form anywhere in the line is answered before one of order, and that before one of range: so the
@@ -63,5 +62,5 @@ fn read_words(line: Rest) -> Result<Option<Block>, LineFault>
         words.add(part, line.measure);
         rest = after;
     }
-    words.answer()
+    Ok(words.answer()?)
 }

@@ -8,8 +8,7 @@ use units::{Measure, REACH};
 // The greatest X, in units, as a magnitude.
 const MOST_UNITS: u32 = REACH as u32;
 
-// How many digits stand in front. This, blank_len and number_len are one iterator expression each; a
-// function over the test would only name it again.
+// How many digits stand in front.
 fn digit_len(bytes: &[u8]) -> usize
     ensures value { result ≡ prefix_len digit bytes.now }
     ensures bound { result ≤ length bytes.now }
@@ -24,8 +23,6 @@ pub(crate) fn all_digits(bytes: &[u8]) -> bool
 }
 
 // `start` with the digits written after it, if that is at most `most`.
-// It is a loop, and no fold: it ends at the first value above `most`, so that the step before keeps the
-// next one in a `u32`. A fold would have to check each step's product and sum, which no digit needs.
 pub(crate) fn value_upto(start: u32, digits: &[u8], most: u32) -> Option<u32>
     requires start { start ≤ most }
     requires most { most ≤ 100000000 }
@@ -55,9 +52,9 @@ fn sign_of<'a>(number: &'a [u8]) -> (bool, &'a [u8])
     ensures sign { result.0 ≡ negative number.now }
     ensures rest { result.1.now ≡ body number.now }
 {
-    match number.split_first() {
-        Some((b'-', tail)) => (true, tail),
-        Some((b'+', tail)) => (false, tail),
+    match number {
+        [b'-', tail @ ..] => (true, tail),
+        [b'+', tail @ ..] => (false, tail),
         _ => (false, number),
     }
 }
@@ -66,10 +63,10 @@ fn sign_of<'a>(number: &'a [u8]) -> (bool, &'a [u8])
 fn decimals_of<'a>(rest: &'a [u8]) -> Option<&'a [u8]>
     ensures { option_map (λ x. x.now) result ≡ fraction rest.now }
 {
-    match rest.split_first() {
-        None => Some(rest),
-        Some((b'.', tail)) => Some(tail),
-        Some(_) => None,
+    match rest {
+        [] => Some(rest),
+        [b'.', tail @ ..] => Some(tail),
+        _ => None,
     }
 }
 

@@ -2,11 +2,10 @@ ghost use Rattle.std.specs.Prelude.{◌≡◌, ◌+◌, ◌≤◌, ◌∷◌, le
 ghost use Rattle.std.specs.List.{prefix_len};
 ghost use Rattle.std.specs.Result.{result_ok};
 ghost use Rattle.reader.specs.Words.{numeric, letter_of, formed};
-ghost use Rattle.reader.specs.Reads.{Stops};
-ghost use Rattle.reader.specs.Lines.{blank, closed_at, left, Begins, Next};
+ghost use Rattle.reader.specs.Lines.{closed_at, Begins, Next};
 
 use crate::block::Unknown;
-use crate::fault::LineFault;
+use crate::fault::{WordCause, WordFault};
 use crate::number::{all_digits, take_apart};
 use crate::rest::Rest;
 use units::Measure;
@@ -45,8 +44,7 @@ pub(crate) struct Word<'a> {
     pub(crate) number: &'a [u8],
 }
 
-// A word or a remark of a line, with the byte at which it starts. A case of its own for each with its
-// place: what is read is one or the other at a place, and no part stands without one.
+// A word or a remark of a line, with the byte at which it starts.
 #[derive(Clone, Copy)]
 pub(crate) enum Part<'a> {
     Word { word: Word<'a>, at: usize },
@@ -65,15 +63,6 @@ impl Word<'_> {
     }
 }
 
-// How many blanks stand in front. This, number_len and digit_len are one iterator expression each; a
-// function over the test would only name it again.
-fn blank_len(bytes: &[u8]) -> usize
-    ensures value { result ≡ prefix_len blank bytes.now }
-    ensures bound { result ≤ length bytes.now }
-{
-    bytes.iter().take_while(|b| **b == b' ').count()
-}
-
 // How many bytes in front may stand in a word after its letter.
 fn number_len(bytes: &[u8]) -> usize
     ensures value { result ≡ prefix_len numeric bytes.now }
@@ -89,60 +78,51 @@ fn number_len(bytes: &[u8]) -> usize
 fn remark_len(tail: &[u8]) -> Option<usize>
     ensures { result ≡ closed_at tail.now }
 {
-    tail.iter().position(|b| *b == b')')
+    tail.iter().position(|b| matches!(b, b')'))
 }
 
 // The remark whose `(` is the byte at `at`, with `tail` after it.
-fn remark_at<'a>(at: usize, tail: Rest<'a>) -> Result<(Part<'a>, Rest<'a>), LineFault>
+fn remark_at<'a>(at: usize, tail: Rest<'a>) -> Result<(Part<'a>, Rest<'a>), WordFault>
     requires { tail.at ≡ at + 1 }
     ensures { Begins tail.entry.measure at (40 ∷ tail.entry.bytes.now) result }
 {
-    let n = remark_len(tail.bytes).ok_or(LineFault::Form { at })?;
+    let n = remark_len(tail.bytes).ok_or(WordCause::Form.at(at))?;
     let (text, closed) = tail.split_at(n);
     let (_, after) = closed.split_at(1);
     Ok((Part::Remark { text, at }, after))
 }
 
 // The word that starts at `at` with the byte `first`, with `tail` after it.
-fn word_at<'a>(at: usize, first: u8, tail: Rest<'a>) -> Result<(Part<'a>, Rest<'a>), LineFault>
+fn word_at<'a>(at: usize, first: u8, tail: Rest<'a>) -> Result<(Part<'a>, Rest<'a>), WordFault>
     requires place { tail.at ≡ at + 1 }
     requires no_blank { first ≢ 32 }
     requires no_remark { first ≢ 40 }
     ensures { Begins tail.entry.measure at (first ∷ tail.entry.bytes.now) result }
 {
-    // What is unknown has nothing to hand on, so that `map_err` would be no shorter.
     let Ok(letter) = Letter::try_from(first) else {
-        return Err(LineFault::Form { at });
+        return Err(WordCause::Form.at(at));
     };
     let (number, after) = tail.split_at(number_len(tail.bytes));
     let word = Word { letter, number };
     if !word.is_well_formed(tail.measure) {
-        return Err(LineFault::Form { at });
+        return Err(WordCause::Form.at(at));
     }
     Ok((Part::Word { word, at }, after))
 }
 
 impl<'a> Rest<'a> {
-    // What is left after the blanks in front.
-    fn after_blanks(self) -> Rest<'a>
-        ensures same { left self.entry ≡ left result }
-        ensures start { Stops blank result.bytes.now }
-        ensures end { result.at + length result.bytes.now ≡ self.entry.at + length self.entry.bytes.now }
-        ensures bound { length result.bytes.now ≤ length self.entry.bytes.now }
-    {
-        let (_, start) = self.split_at(blank_len(self.bytes));
-        start
-    }
-
     // The first part, and what is left after it; none where only blanks are left.
-    pub(crate) fn next_part(self) -> Option<Result<(Part<'a>, Rest<'a>), LineFault>>
+    pub(crate) fn next_part(self) -> Option<Result<(Part<'a>, Rest<'a>), WordFault>>
         ensures { Next self.entry result }
     {
-        let start = self.after_blanks();
-        let (first, tail) = start.split_first()?;
-        match first {
-            b'(' => Some(remark_at(start.at, tail)),
-            _ => Some(word_at(start.at, first, tail)),
+        let mut start = self;
+        while let Some((first, tail)) = start.split_first() {
+            match first {
+                b' ' => start = tail,
+                b'(' => return Some(remark_at(start.at, tail)),
+                _ => return Some(word_at(start.at, first, tail)),
+            }
         }
+        None
     }
 }

@@ -1,4 +1,4 @@
-ghost use Rattle.std.specs.Prelude.{◌≡◌, ◌+◌, ◌≤◌, ◌∷◌, length, take, drop, MatchOption, []};
+ghost use Rattle.std.specs.Prelude.{◌≡◌, ◌+◌, ◌≤◌, length, take, drop};
 ghost use Rattle.reader.specs.declared.rest.TheConstants.{MOST_BYTES};
 
 use units::Measure;
@@ -17,6 +17,8 @@ pub(crate) struct Rest<'a> {
 }
 
 impl<'a> Rest<'a> {
+    ghost use Rattle.reader.specs.Lines.{First};
+
     // A whole line.
     pub(crate) fn of(line: &'a [u8], measure: Measure) -> Rest<'a>
         requires { length line.now ≤ MOST_BYTES }
@@ -52,9 +54,11 @@ impl<'a> Rest<'a> {
 
     // The first byte, and what is left after it.
     pub(crate) fn split_first(self) -> Option<(u8, Rest<'a>)>
-        ensures { MatchOption result (self.entry.bytes.now ≡ []) (λ s. (self.entry.bytes.now ≡ s.0 ∷ s.1.bytes.now) × (s.1.at ≡ self.entry.at + 1) × (s.1.measure ≡ self.entry.measure)) }
+        ensures { First self.entry result }
     {
-        let (first, bytes) = self.bytes.split_first()?;
+        let [first, bytes @ ..] = self.bytes else {
+            return None;
+        };
         Some((
             *first,
             Rest {

@@ -3,11 +3,11 @@ ghost use Rattle.reader.specs.Lines.{shown};
 ghost use Rattle.reader.specs.Summaries.{bars, repeats, added, answered};
 
 use crate::block::{Block, Value};
-use crate::fault::LineFault;
+use crate::fault::{WordCause, WordFault};
 use crate::part::{Letter, Part};
 use units::Measure;
 
-// What the words of a line so far come to: no word is kept, so that a line is read once and needs no table.
+// What the words of a line so far come to.
 #[derive(Clone, Copy, Default)]
 pub(crate) struct Summary {
     // the letter of the last word
@@ -60,12 +60,12 @@ impl Summary {
     }
 
     // What the line gives, if it has no other part.
-    pub(crate) fn answer(self) -> Result<Option<Block>, LineFault>
+    pub(crate) fn answer(self) -> Result<Option<Block>, WordFault>
         ensures { result ≡ answered self }
     {
         match (self.misplaced, self.outside) {
-            (Some(at), _) => Err(LineFault::Order { at }),
-            (None, Some(at)) => Err(LineFault::Range { at }),
+            (Some(at), _) => Err(WordCause::Order.at(at)),
+            (None, Some(at)) => Err(WordCause::Range.at(at)),
             (None, None) => Ok(self.block),
         }
     }
