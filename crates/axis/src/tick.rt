@@ -4,7 +4,6 @@ ghost use Rattle.states.specs.View.{raw_in, going_in, travel_of, status_of};
 ghost use Rattle.states.specs.declared.state.State.TheVariants.{Moving, Braking};
 ghost use Rattle.states.specs.Moves.{direction_of, ticked_in, braked_in};
 ghost use Rattle.ticks.specs.Ticks.{run_step, slow_step, tick_step, tick_reply};
-ghost use Rattle.ticks.specs.Moving.{trouble as trouble_for};
 
 use crate::{Axis, Levels};
 use drives::drive::Drive;
@@ -13,7 +12,7 @@ use drives::send::send;
 use states::movers::{brake_in, tick_in};
 use states::{AxisFault, Cause, Journey, Reading, Record, State};
 use store::Store;
-use ticks::blocks::take;
+use ticks::blocks::{begin_block, take};
 use ticks::moving::{arrive, direction_of, fail, follow, is_ahead, stop_short};
 
 // Functions over an axis's drive and its record, since their contracts name the move in progress, of which
@@ -66,21 +65,34 @@ impl<D: Drive> Axis<D> {
     {
         let reading = self.reading();
         let levels = self.levels();
-        // The two arms of a move ask for trouble alike. One arm for both would match the state again, and a
-        // step of its own, which changes the axis and returns early, gets no proof by itself.
-        match (self.status.work.state, levels) {
-            (State::Standing, _) | (State::Held(_), _) => Ok(()),
-            (State::BetweenBlocks(run), _) => take(&mut self.status, reading, store, run),
-            (State::Moving(journey), levels) => {
-                if let Some(cause) = trouble(journey, levels) {
-                    return Err(fail(&mut self.status, journey, reading, cause));
+        match (&mut self.status.work.state, levels) {
+            (State::Standing | State::Held(_), _) => Ok(()),
+            (State::BetweenBlocks(run), _) => {
+                // A program that has no block left is over.
+                let Some(block) = take(run, store) else {
+                    self.status.work.state = State::Standing;
+                    return Ok(());
+                };
+                let run = *run;
+                begin_block(&mut self.status, reading, run, block.target)
+            }
+            (State::Moving(journey) | State::Braking(journey), Levels { ready: false, .. }) => {
+                let journey = *journey;
+                let cause = DriveFault::NotReadyInMotion.into();
+                Err(fail(&mut self.status, journey, reading, cause))
+            }
+            (State::Moving(journey), Levels { switches, .. }) => {
+                let journey = *journey;
+                if is_ahead(journey, switches) {
+                    return Err(fail(&mut self.status, journey, reading, Cause::SwitchAhead));
                 }
                 run_on(&mut self.drive, &mut self.status, journey);
                 Ok(())
             }
-            (State::Braking(journey), levels) => {
-                if let Some(cause) = trouble(journey, levels) {
-                    return Err(fail(&mut self.status, journey, reading, cause));
+            (State::Braking(journey), Levels { switches, .. }) => {
+                let journey = *journey;
+                if is_ahead(journey, switches) {
+                    return Err(fail(&mut self.status, journey, reading, Cause::SwitchAhead));
                 }
                 slow_down(&mut self.drive, &mut self.status, journey);
                 Ok(())
@@ -96,17 +108,4 @@ impl<D: Drive> Axis<D> {
             ready: self.drive.ready(),
         }
     }
-}
-
-// 24, then 23.
-fn trouble(journey: Journey, levels: Levels) -> Option<Cause>
-    ensures { result ≡ trouble_for journey.distance levels.ready levels.switches.begin levels.switches.end }
-{
-    if !levels.ready {
-        return Some(DriveFault::NotReadyInMotion.into());
-    }
-    if is_ahead(journey, levels.switches) {
-        return Some(Cause::SwitchAhead);
-    }
-    None
 }

@@ -30,6 +30,11 @@ with_words b c = record {
   auxiliary = b.auxiliary;
 }
 
+-- a program that takes its next block, if one is left
+abbrev pub with_next : Option Block → Course → Course
+with_next None c = c
+with_next (Some b) c = with_words b c
+
 -- M00 holds
 abbrev pub holds_by : Option ℕ → Bool
 holds_by None = false

@@ -1,10 +1,10 @@
-ghost use Rattle.std.specs.Prelude.{◌≡◌, ◌<◌, ◌+ℤ◌};
+ghost use Rattle.std.specs.Prelude.{◌≡◌, ◌+ℤ◌};
 ghost use Rattle.motion.specs.Travel.{Going};
 ghost use Rattle.states.specs.Shift.{offset_by};
 ghost use Rattle.states.specs.Courses.{course_rate};
-ghost use Rattle.states.specs.State.{with_work};
+ghost use Rattle.states.specs.State.{Phase, with_work, with_phase};
 ghost use Rattle.states.specs.View.{raw_in, course_in, work_of, status_of};
-ghost use Rattle.ticks.specs.Blocks.{with_words, block_target, target_verdict, block_verdict, showing, begun_with, begun_reply, take_step, take_reply};
+ghost use Rattle.ticks.specs.Blocks.{block_target, target_verdict, block_verdict, showing, begun_with, begun_reply, block_run, block_reply, next_block, with_next};
 
 use crate::moving::after_block;
 use reader::{Block, Way};
@@ -14,39 +14,33 @@ use store::Store;
 
 // Axis and program stand apart in what changes the axis; what only asks has both in a `BlockMove`.
 
-/// Takes the next block of a program; one that has none left is over.
-pub fn take(axis: &mut Record, reading: Reading, store: &Store, run: Run) -> Result<(), AxisFault>
-    ensures value { result ≡ take_reply store.now (course_in run) reading (status_of axis.old) }
-    ensures after { status_of axis.new ≡ take_step store.now (course_in run) reading (status_of axis.old) }
+/// Takes the next block of a program: its words take effect in the run, before its X is reckoned.
+pub fn take(run: &mut Run, store: &Store) -> Option<Block>
+    ensures value { result ≡ next_block store.now (course_in run.old) }
+    ensures after { course_in run.new ≡ with_next (next_block store.now (course_in run.old)) (course_in run.old) }
 {
-    let Some(block) = store.block(run.program, usize::from(run.taken)) else {
-        axis.work.state = State::Standing;
-        return Ok(());
-    };
-    let run = with_words(&block, run);
-    let Some(x) = block.target else {
+    let block = store.block(run.program, usize::from(run.taken))?;
+    run.taken += 1;
+    run.motion = block.motion.unwrap_or(run.motion);
+    run.offset = block.offset.unwrap_or(run.offset);
+    run.way = block.way.unwrap_or(run.way);
+    run.feed = block.feed.or(run.feed);
+    run.auxiliary = block.auxiliary;
+    Some(block)
+}
+
+/// What a block that is taken does: its move begins, or it is done without one.
+pub fn begin_block(axis: &mut Record, reading: Reading, run: Run, x: Option<i32>) -> Result<(), AxisFault>
+    ensures value { result ≡ block_reply x (course_in run) reading (raw_in axis.old.machine) (status_of axis.old).work }
+    ensures after { (p : Phase) → status_of axis.new ≡ with_work (block_run x (course_in run) reading (raw_in axis.old.machine) (with_phase p (status_of axis.old).work)) (status_of axis.old) }
+{
+    let Some(x) = x else {
         show(axis, run);
         axis.work.state = after_block(axis.work.mode, false, run);
         return Ok(());
     };
     let asked = ask_block(axis, reading, run, x);
     begin(axis, asked, run)
-}
-
-// The block's words take effect before its X is reckoned.
-fn with_words(block: &Block, run: Run) -> Run
-    requires { run.taken < 64 }
-    ensures { course_in result ≡ with_words block.now (course_in run) }
-{
-    Run {
-        program: run.program,
-        taken: run.taken + 1,
-        motion: block.motion.unwrap_or(run.motion),
-        offset: block.offset.unwrap_or(run.offset),
-        way: block.way.unwrap_or(run.way),
-        feed: block.feed.or(run.feed),
-        auxiliary: block.auxiliary,
-    }
 }
 
 // The M of a block shows from the tick that takes it.
