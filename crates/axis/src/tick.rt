@@ -15,10 +15,6 @@ use store::Store;
 use ticks::blocks::{begin_block, take};
 use ticks::moving::{arrive, direction_of, fail, follow, is_ahead, stop_short};
 
-// Functions over an axis's drive and its record, since their contracts name the move in progress, of which
-// the axis tells only while it moves. A tick and a braking tick differ in what they run and in what they
-// leave; with closures for both no line would be saved.
-
 // Sends the pulses of a tick. A refused one leaves the drive as it is, and so does each after it.
 fn pulse<D: Drive>(drive: &mut D, journey: Journey, pulses: u64) -> Reading
     ensures sent { D.Drive.meaning drive.new ≡ sent (direction_of journey.distance) pulses (D.Drive.meaning drive.old) }
@@ -76,24 +72,24 @@ impl<D: Drive> Axis<D> {
                 let run = *run;
                 begin_block(&mut self.status, reading, run, block.target)
             }
-            (State::Moving(journey) | State::Braking(journey), Levels { ready: false, .. }) => {
-                let journey = *journey;
+            // 24
+            (
+                &mut (State::Moving(journey) | State::Braking(journey)),
+                Levels { ready: false, .. },
+            ) => {
                 let cause = DriveFault::NotReadyInMotion.into();
                 Err(fail(&mut self.status, journey, reading, cause))
             }
-            (State::Moving(journey), Levels { switches, .. }) => {
-                let journey = *journey;
-                if is_ahead(journey, switches) {
-                    return Err(fail(&mut self.status, journey, reading, Cause::SwitchAhead));
-                }
+            // 23
+            (&mut (State::Moving(journey) | State::Braking(journey)), Levels { switches, .. })
+                if is_ahead(journey, switches) => {
+                Err(fail(&mut self.status, journey, reading, Cause::SwitchAhead))
+            }
+            (&mut State::Moving(journey), _) => {
                 run_on(&mut self.drive, &mut self.status, journey);
                 Ok(())
             }
-            (State::Braking(journey), Levels { switches, .. }) => {
-                let journey = *journey;
-                if is_ahead(journey, switches) {
-                    return Err(fail(&mut self.status, journey, reading, Cause::SwitchAhead));
-                }
+            (&mut State::Braking(journey), _) => {
                 slow_down(&mut self.drive, &mut self.status, journey);
                 Ok(())
             }

@@ -121,9 +121,6 @@ impl StandingRequest<'_> {
         Ok(Plan::Go(self.view.ask_move(wish)?))
     }
 
-    // Each gives a wish, and no bare target with the rate asked once in `go`: a number that is handed on is
-    // known by its bits, and every call would need a proof by hand.
-
     // As far as the axis may go.
     fn jog(&self) -> Wish
         ensures { (g : Going) → result ≡ record { target = jog_target self.now.view.machine.now self.now.order (work_of g self.now.view.work.now); rate = rate_by self.now.view.machine.now self.now.order.word } }

@@ -11,7 +11,6 @@ use motion::MachineData;
 use states::{AxisFault, Cause, Hold, Mode, NO_AUXILIARY, Reading, Record, Run, State};
 
 /// Carries out what an accepted order is to do.
-// Axis and reading stand apart here, since the axis is changed.
 pub fn carry_out(axis: &mut Record, reading: Reading, accepted: Accepted)
     ensures { status_of axis.new ≡ carried (mode_number accepted.mode) accepted.plan reading (status_of axis.old) }
 {
@@ -111,7 +110,6 @@ fn go_on(state: &mut State)
     }
 }
 
-// The bound is of this difference alone, and no fact of a type.
 // The count at zero that makes the reference coordinate the place where the drive is.
 fn zero_of(machine: &MachineData, reading: Reading) -> i64
     ensures value { result ≡ (reading.count -ℤ pulses_by machine.now machine.now.reference) }

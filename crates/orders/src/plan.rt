@@ -1,7 +1,6 @@
 use states::{Aim, Mode};
 
 /// What an accepted order does.
-// Data and no closure: the questions give it, and the contracts say it, before the axis is changed.
 #[derive(Clone, Copy)]
 pub enum Plan {
     /// brakes, then holds the program

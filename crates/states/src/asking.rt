@@ -10,7 +10,6 @@ use crate::record::Record;
 use crate::working::Working;
 use motion::{MachineData, REACH};
 
-// The ends have the names that machine data give them; a range of the library would not.
 /// A least and a greatest coordinate.
 #[derive(Clone, Copy)]
 pub struct Span {

@@ -59,8 +59,8 @@ pub enum Layer {
     Axis,
 }
 
-// Numbers and no options: a refused start may name program 0, which a host reads as none.
 /// A fault of an axis: its cause, and the program and block where it arose, 0 for none.
+// A refused start may name program 0, which a host reads as none.
 #[derive(Clone, Copy, PartialEq, Eq, Debug)]
 pub struct AxisFault {
     pub cause: Cause,

@@ -8,9 +8,6 @@ ghost use Rattle.states.specs.Moves.{ticked_in, braked_in, begun_in};
 use crate::aim::Aim;
 use motion::{Mover, Passed};
 
-// The machine data of an axis and the move in progress stand in an option of the library's: a type around
-// it would have these functions as methods and nothing more.
-
 // A step of the move in progress. Without machine data there is no move, and nothing changes.
 fn step_in<F: FnOnce(&mut Mover) -> Passed>(machine: &mut Option<Mover>, step: F) -> Passed
     requires { F.IsAlwaysCallable step }
@@ -21,8 +18,6 @@ fn step_in<F: FnOnce(&mut Mover) -> Passed>(machine: &mut Option<Mover>, step: F
         None => Passed::STANDING,
     }
 }
-
-// Each contract says that the data stay: no fact of a type holds before and after a change.
 
 /// A tick of the move in progress.
 #[tactic(auto, unfolding(crate::specs::Moves::ticked_in))]

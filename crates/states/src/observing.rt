@@ -9,8 +9,7 @@ use crate::record::Record;
 use crate::state::State;
 use units::Measure;
 
-// The bits of the feedback byte; bit 4 is always 0. A host is told the byte and nothing here reads a
-// bit of it: a type of flags would be made and at once given up for its number.
+// The bits of the feedback byte; bit 4 is always 0.
 const DEGREES: u8 = 0x01;
 
 const METRIC: u8 = 0x02;
@@ -49,7 +48,7 @@ impl Record {
         }
     }
 
-    // The coordinate less the shift. Written out in `observe`, it gets no proof by itself.
+    // The coordinate less the shift.
     fn actual(&self) -> i64
         ensures { result ≡ (self.now.work.coordinate -ℤ shift_of (raw_in self.now.machine) (status_of self.now).work) }
     {

@@ -8,7 +8,6 @@ use crate::state::Journey;
 use crate::working::Working;
 
 impl Working {
-    // Each difference and sum has a bound of its own, which a type for all of them would not keep.
     /// The pulses from zero to where the drive is.
     pub fn from_zero(&self, reading: Reading) -> i64
         ensures value { result ≡ (reading.count -ℤ self.now.zero) }

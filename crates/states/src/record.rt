@@ -13,8 +13,6 @@ pub struct Switches {
 }
 
 /// All that an axis keeps beside its drive.
-// No model: orders and ticks read and write the fields one by one, and their clauses name the move in
-// progress, of which the status tells only while the axis moves.
 #[derive(Drop)]
 pub struct Record {
     pub switches: Switches,

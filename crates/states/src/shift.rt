@@ -48,7 +48,6 @@ impl State {
 }
 
 impl Working {
-    // Each sum has a bound of its own, which a type for all of them would not keep.
     /// The shift outside a program: zero offset and tool value.
     pub fn own_shift(&self) -> i64
         ensures value { result ≡ (self.now.offset +ℤ self.now.tool) }

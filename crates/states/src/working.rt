@@ -55,7 +55,6 @@ impl Working {
     pub(crate) fn clear(&mut self)
         ensures { (g : Going) → work_of g self.new ≡ cleared self.old.zero (work_of g self.old) }
     {
-        // A literal with a ghost field takes no rest of another value by `..`.
         let (fault, zero) = (self.fault, self.zero);
         *self = Working::new();
         self.fault = fault;

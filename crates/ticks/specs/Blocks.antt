@@ -1,5 +1,5 @@
 -- Taking the next block of a program, and what follows when it is done.
-use Rattle.std.specs.Prelude.{ℕ, ◌+◌, Bool, false, cond, ◌&&◌, ◌||◌, ℤ, ◌+ℤ◌, Some, None, Ok, Err, Option, Result, ◌==◌}
+use Rattle.std.specs.Prelude.{◌≡◌, ℕ, ◌+◌, Bool, false, cond, ◌&&◌, ◌||◌, ℤ, ◌+ℤ◌, Some, None, Ok, Err, Option, Result, ◌==◌}
 use Rattle.std.specs.Option.{unwrap_or, option_or}
 use Rattle.reader.specs.declared.block.Block.{Block}
 use Rattle.reader.specs.declared.block.Way.{Way}
@@ -86,6 +86,13 @@ block_run (Some x) c m machine w = begun_with (block_verdict machine c x m w) ma
 abbrev pub block_reply : Option ℤ → Course → Meaning → Option RawData → Work → Result (Unit {0}) AxisFault
 block_reply None c m machine w = Ok tt
 block_reply (Some x) c m machine w = begun_reply (block_verdict machine c x m w) c
+
+-- a block begins: whatever the axis was doing, it then does what the block says
+abbrev pub Begins : Option ℤ → Course → Meaning → Status → Status → Type 0
+Begins x c m s t = (p : Phase) → t ≡ with_work (block_run x c m s.machine (with_phase p s.work)) s
+
+abbrev pub begin_reply : Option ℤ → Course → Meaning → Status → Result (Unit {0}) AxisFault
+begin_reply x c m s = block_reply x c m s.machine s.work
 
 -- the next block of a program; a program that has none left is over
 abbrev pub next_run : Option Block → Course → Meaning → Option RawData → Work → Work

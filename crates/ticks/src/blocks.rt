@@ -2,17 +2,15 @@ ghost use Rattle.std.specs.Prelude.{◌≡◌, ◌+ℤ◌};
 ghost use Rattle.motion.specs.Travel.{Going};
 ghost use Rattle.states.specs.Shift.{offset_by};
 ghost use Rattle.states.specs.Courses.{course_rate};
-ghost use Rattle.states.specs.State.{Phase, with_work, with_phase};
+ghost use Rattle.states.specs.State.{with_work};
 ghost use Rattle.states.specs.View.{raw_in, course_in, work_of, status_of};
-ghost use Rattle.ticks.specs.Blocks.{block_target, target_verdict, block_verdict, showing, begun_with, begun_reply, block_run, block_reply, next_block, with_next};
+ghost use Rattle.ticks.specs.Blocks.{block_target, target_verdict, block_verdict, showing, begun_with, begun_reply, Begins, begin_reply, next_block, with_next};
 
 use crate::moving::after_block;
 use reader::{Block, Way};
 use states::effects::fault_in;
 use states::{Aim, AxisFault, AxisView, Cause, Reading, Record, Run, State, Wish};
 use store::Store;
-
-// Axis and program stand apart in what changes the axis; what only asks has both in a `BlockMove`.
 
 /// Takes the next block of a program: its words take effect in the run, before its X is reckoned.
 pub fn take(run: &mut Run, store: &Store) -> Option<Block>
@@ -29,10 +27,15 @@ pub fn take(run: &mut Run, store: &Store) -> Option<Block>
     Some(block)
 }
 
-/// What a block that is taken does: its move begins, or it is done without one.
-pub fn begin_block(axis: &mut Record, reading: Reading, run: Run, x: Option<i32>) -> Result<(), AxisFault>
-    ensures value { result ≡ block_reply x (course_in run) reading (raw_in axis.old.machine) (status_of axis.old).work }
-    ensures after { (p : Phase) → status_of axis.new ≡ with_work (block_run x (course_in run) reading (raw_in axis.old.machine) (with_phase p (status_of axis.old).work)) (status_of axis.old) }
+/// Begins a block that is taken, whatever the axis was doing: its move, or what follows where it has none.
+pub fn begin_block(
+    axis: &mut Record,
+    reading: Reading,
+    run: Run,
+    x: Option<i32>,
+) -> Result<(), AxisFault>
+    ensures value { result ≡ begin_reply x (course_in run) reading (status_of axis.old) }
+    ensures after { Begins x (course_in run) reading (status_of axis.old) (status_of axis.new) }
 {
     let Some(x) = x else {
         show(axis, run);
@@ -74,7 +77,6 @@ fn begin(axis: &mut Record, asked: Result<Aim, Cause>, run: Run) -> Result<(), A
 fn ask_block(axis: &Record, reading: Reading, run: Run, x: i32) -> Result<Aim, Cause>
     ensures { result ≡ block_verdict (raw_in axis.now.machine) (course_in run) x reading (status_of axis.now).work }
 {
-    // `ok_or` would take what borrows the axis by value, which gets no proof by itself.
     let Some(view) = axis.view(reading) else {
         return Err(Cause::NoMachineData);
     };

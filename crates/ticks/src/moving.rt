@@ -34,8 +34,6 @@ pub fn is_ahead(journey: Journey, switches: Switches) -> bool
     0 < journey.distance && switches.end
 }
 
-// Whether the block had a move is a fact of the block, as its M is; nothing is chosen by it but in
-// single blocks, and a type or a closure for it would say no more.
 /// A block is done: what follows by its M and by the mode.
 pub fn after_block(mode: Mode, moved: bool, run: Run) -> State
     ensures { (g : Going) → phase_of g result ≡ done_with (mode_number mode) moved (course_in run) }
@@ -82,11 +80,7 @@ fn stopped_short(journey: Journey) -> State
     journey.run.map_or(State::Standing, |run| held(run, target))
 }
 
-// Axis and reading go together here and in the taking of blocks. A struct of both would borrow the axis to
-// change it, and its contracts would speak of the axis before and after through that borrow.
-
-/// After the pulses of a tick that did not end its move: where the axis is. What it is doing stays, and is
-/// not written again.
+/// After the pulses of a tick that did not end its move: where the axis is. What it is doing stays.
 pub fn follow(axis: &mut Record, journey: Journey, reading: Reading)
     ensures { status_of axis.new ≡ with_work (at (placed (raw_in axis.old.machine) (travel_of (going_in axis.old.machine) journey) reading.count (status_of axis.old).work) (status_of axis.old).work.phase (status_of axis.old).work) (status_of axis.old) }
 {
