@@ -1,54 +1,129 @@
 -- The worked examples, computed.
-use Rattle.std.proofs.Common.{◌≡◌, refl, sym, ap, subst, List, [], ◌∷◌, ◌++◌, Some, pos}
-use Rattle.motion.specs.Ramp.{after_first}
+use Rattle.std.proofs.Common.{◌≡◌, refl, sym, ap, subst, ◌∙◌, arith, List, [], ◌∷◌, ◌++◌, map, None, Some, pos}
+use Rattle.motion.specs.declared.raw.RawData.{RawData}
+use Rattle.motion.specs.Ramp.{after_first, ramp_of}
 use Rattle.motion.specs.Travel.{way}
-use Rattle.motion.specs.Examples.{Examples, axis_a}
-use Rattle.states.specs.Entry.{new_status, with_data, cleared}
-use Rattle.states.specs.Moves.{ticked_in, begun_in, placed_in}
+use Rattle.motion.proofs.Curve.{first-none, past}
+use Rattle.states.specs.Entry.{new_status, with_data, cleared, data_refusal}
+use Rattle.states.specs.Moves.{ticked_in, braked_in, begun_in, placed_in}
+use Rattle.store.specs.Programs.{read}
 use Rattle.ticks.specs.Ticks.{with_status}
-use Rattle.laws.proofs.Shown.{accepted, shown}
-use Rattle.module.specs.declared.call.Act.TheVariants.{Enter, Tick}
-use Rattle.module.specs.declared.call.Call.{Call}
+use Rattle.module.specs.declared.call.Act.TheVariants.{Enter}
 use Rattle.module.specs.State.{Machine}
-use Rattle.module.specs.Machine.{done, step, reply, after, replies}
-use Rattle.module.specs.Examples.{on_first, to_levels, stages, ThreeMoves, FirstTick, WorkedExamples}
+use Rattle.module.specs.Machine.{step}
+use Rattle.module.specs.Examples.{outcome, Turn, outcomes, Row, numbers, run, stages, Comes, on_first, does, observes, axis_a, coarse, offset_a, ramp, hundred, stopped, three_moves, feedback, at_limit, past_limit, offset_in_program, WorkedExamples}
 
-moves : Examples
-unfolding after_first way
-moves = tt
+-- TURN BY TURN
 
-three : ThreeMoves
-three = refl
+abbrev Turns : Machine → List Turn → Type 0
+Turns s ts = outcomes s ts ≡ map (λ t. t.wanted) ts
 
--- the module once axis A's machine data are entered
-abbrev entered : Machine
-entered = record {
-  first = with_status (with_data (Some axis_a) (cleared (pos 0) new_status.work) new_status) stages.first;
+turned : (t : Turn) (ts : List Turn) (s s′ : Machine) → outcome t.call s ≡ t.wanted → step t.call s ≡ s′ → Turns s′ ts → Turns s (t ∷ ts)
+turned t ts s s′ now next later =
+    ap (λ o. o ∷ outcomes (step t.call s) ts) now
+    ∙ ap (λ os. t.wanted ∷ os) (subst (λ (m : Machine). Turns m ts) (sym next) later)
+
+-- MACHINE DATA ENTERED
+
+-- the module once the first axis has machine data d
+abbrev entered : RawData → Machine
+entered d = record {
+  first = with_status (with_data (Some d) (cleared (pos 0) new_status.work) new_status) stages.first;
   second = stages.second;
   third = stages.third;
   programs = stages.programs;
 }
 
-is_entered : step (on_first (Enter axis_a)) stages ≡ entered
-is_entered = rw accepted refl
+entering : (d : RawData) (ts : List Turn) → data_refusal d ≡ None → Turns (entered d) ts → Turns stages (does (on_first (Enter d)) ∷ ts)
+entering d ts h later = turned (does (on_first (Enter d))) ts stages (entered d) (rw h refl) (rw h refl) later
 
-is_done : reply (on_first (Enter axis_a)) stages ≡ done
-is_done = rw accepted refl
+-- the ramp of axis A is at its end with the sixth step, and stays there
+ended : after_first axis_a.fs axis_a.fm axis_a.increase 5 ≡ axis_a.fm
+unfolding after_first
+ended = refl
 
-later : replies entered (to_levels ++ (on_first Tick ∷ [])) ≡ done ∷ done ∷ done ∷ done ∷ []
+short : ramp_of axis_a 4096 ≡ axis_a.fm
+short = past axis_a.fs axis_a.fm axis_a.increase 5 4095 ended (omega arith)
+
+takes_a : data_refusal axis_a ≡ None
+unfolding data_refusal
+takes_a = rw short refl
+
+takes_offset : data_refusal offset_a ≡ None
+unfolding data_refusal
+takes_offset = rw short refl
+
+-- a ramp that starts at its maximum stays there
+flat : ramp_of coarse 4096 ≡ coarse.fm
+flat = past coarse.fs coarse.fm coarse.increase 0 4095 (first-none coarse.fs coarse.fm coarse.increase) (omega arith)
+
+takes_coarse : data_refusal coarse ≡ None
+unfolding data_refusal
+takes_coarse = rw flat refl
+
+-- THE ROWS
+
+abbrev turns_of : Row → List Turn
+turns_of (numbers got wanted) = []
+turns_of (run turns) = turns
+
+abbrev rest : List Turn → List Turn
+rest [] = []
+rest (t ∷ ts) = ts
+
+ramp_comes : Comes ramp
+unfolding after_first
+ramp_comes = refl
+
+hundred_later : Turns (entered axis_a) (rest (turns_of hundred))
 unfolding after_first way ticked_in begun_in placed_in
-later = refl
+hundred_later = refl
 
-moved : (after entered (to_levels ++ (on_first Tick ∷ []))).first.drive.count ≡ pos 1
+hundred_comes : Comes hundred
+hundred_comes = entering axis_a (rest (turns_of hundred)) takes_a hundred_later
+
+stopped_later : Turns (entered axis_a) (rest (turns_of stopped))
+unfolding after_first way ticked_in braked_in begun_in placed_in
+stopped_later = refl
+
+stopped_comes : Comes stopped
+stopped_comes = entering axis_a (rest (turns_of stopped)) takes_a stopped_later
+
+three_moves_later : Turns (entered coarse) (rest (turns_of three_moves))
 unfolding after_first way ticked_in begun_in placed_in
-moved = refl
+three_moves_later = refl
 
-tick : FirstTick
-tick =
-    let calls : List Call = to_levels ++ (on_first Tick ∷ []) in (
-      rw is_done (ap (λ ts. done ∷ ts) (subst (λ (s : Machine). replies s calls ≡ done ∷ done ∷ done ∷ done ∷ []) (sym is_entered) later)),
-      subst (λ (s : Machine). (after s calls).first.drive.count ≡ pos 1) (sym is_entered) moved,
-    )
+three_moves_comes : Comes three_moves
+three_moves_comes = entering coarse (rest (turns_of three_moves)) takes_coarse three_moves_later
+
+at_limit_later : Turns (entered axis_a) (rest (turns_of at_limit))
+unfolding begun_in
+at_limit_later = refl
+
+at_limit_comes : Comes at_limit
+at_limit_comes = entering axis_a (rest (turns_of at_limit)) takes_a at_limit_later
+
+past_limit_later : Turns (entered axis_a) (rest (turns_of past_limit))
+past_limit_later = refl
+
+past_limit_comes : Comes past_limit
+past_limit_comes = entering axis_a (rest (turns_of past_limit)) takes_a past_limit_later
+
+offset_in_program_later : Turns (entered offset_a) (rest (turns_of offset_in_program))
+unfolding read
+offset_in_program_later = refl
+
+offset_in_program_comes : Comes offset_in_program
+offset_in_program_comes = entering offset_a (rest (turns_of offset_in_program)) takes_offset offset_in_program_later
+
+feedback_later : Turns (entered axis_a) (rest (rest (turns_of feedback)))
+feedback_later = refl
+
+feedback_comes : Comes feedback
+feedback_comes =
+    let ts : List Turn = rest (turns_of feedback) in
+    turned (observes 0 0xE0 0) ts stages stages refl refl (entering axis_a (rest ts) takes_a feedback_later)
 
 pub worked : WorkedExamples
-worked = record { moves = moves; three = three; tick = tick; play = refl; feedback = shown }
+worked =
+    (ramp_comes, (hundred_comes, (stopped_comes, (three_moves_comes, (refl, (refl, (refl, (refl, (feedback_comes, (at_limit_comes, (past_limit_comes, (offset_in_program_comes, tt))))))))))))
