@@ -75,54 +75,33 @@ ramp_comes : Comes ramp
 unfolding after_first
 ramp_comes = refl
 
-hundred_later : Turns (entered axis_a) (rest (turns_of hundred))
-unfolding after_first way ticked_in begun_in placed_in
-hundred_later = refl
-
 hundred_comes : Comes hundred
-hundred_comes = entering axis_a (rest (turns_of hundred)) takes_a hundred_later
-
-stopped_later : Turns (entered axis_a) (rest (turns_of stopped))
-unfolding after_first way ticked_in braked_in begun_in placed_in
-stopped_later = refl
+unfolding after_first way ticked_in begun_in placed_in
+hundred_comes = entering axis_a (rest (turns_of hundred)) takes_a refl
 
 stopped_comes : Comes stopped
-stopped_comes = entering axis_a (rest (turns_of stopped)) takes_a stopped_later
-
-three_moves_later : Turns (entered coarse) (rest (turns_of three_moves))
-unfolding after_first way ticked_in begun_in placed_in
-three_moves_later = refl
+unfolding after_first way ticked_in braked_in begun_in placed_in
+stopped_comes = entering axis_a (rest (turns_of stopped)) takes_a refl
 
 three_moves_comes : Comes three_moves
-three_moves_comes = entering coarse (rest (turns_of three_moves)) takes_coarse three_moves_later
-
-at_limit_later : Turns (entered axis_a) (rest (turns_of at_limit))
-unfolding begun_in
-at_limit_later = refl
+unfolding after_first way ticked_in begun_in placed_in
+three_moves_comes = entering coarse (rest (turns_of three_moves)) takes_coarse refl
 
 at_limit_comes : Comes at_limit
-at_limit_comes = entering axis_a (rest (turns_of at_limit)) takes_a at_limit_later
-
-past_limit_later : Turns (entered axis_a) (rest (turns_of past_limit))
-past_limit_later = refl
+unfolding begun_in
+at_limit_comes = entering axis_a (rest (turns_of at_limit)) takes_a refl
 
 past_limit_comes : Comes past_limit
-past_limit_comes = entering axis_a (rest (turns_of past_limit)) takes_a past_limit_later
-
-offset_in_program_later : Turns (entered offset_a) (rest (turns_of offset_in_program))
-unfolding read
-offset_in_program_later = refl
+past_limit_comes = entering axis_a (rest (turns_of past_limit)) takes_a refl
 
 offset_in_program_comes : Comes offset_in_program
-offset_in_program_comes = entering offset_a (rest (turns_of offset_in_program)) takes_offset offset_in_program_later
-
-feedback_later : Turns (entered axis_a) (rest (rest (turns_of feedback)))
-feedback_later = refl
+unfolding read
+offset_in_program_comes = entering offset_a (rest (turns_of offset_in_program)) takes_offset refl
 
 feedback_comes : Comes feedback
 feedback_comes =
     let ts : List Turn = rest (turns_of feedback) in
-    turned (observes 0 0xE0 0) ts stages stages refl refl (entering axis_a (rest ts) takes_a feedback_later)
+    turned (observes 0 0xE0 0) ts stages stages refl refl (entering axis_a (rest ts) takes_a refl)
 
 pub worked : WorkedExamples
 worked =
