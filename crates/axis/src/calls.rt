@@ -4,7 +4,6 @@ ghost use Rattle.states.specs.Entry.{enter_reply, delete_reply};
 ghost use Rattle.states.specs.State.{uses};
 ghost use Rattle.orders.specs.Orders.{order_reply};
 ghost use Rattle.laws.specs.Acts.{enter_axis, delete_axis, order_axis, levels_step};
-ghost use Rattle.laws.specs.Shows.{Feedback};
 
 use crate::{Axis, Levels};
 use drives::drive::Drive;
@@ -50,10 +49,8 @@ impl<D: Drive> Axis<D> {
     }
 
     /// Mode, M number, coordinate, shift, actual value, rest, fault and feedback byte; nothing changes.
-    /// The rows are feedback bytes of a new axis, of one with machine data and of a referenced one.
     pub fn observe(&self) -> Observation<AxisFault>
-        ensures value { shown_by result ≡ observed self.now.status }
-        ensures rows { Feedback }
+        ensures { shown_by result ≡ observed self.now.status }
     {
         self.status.observe()
     }

@@ -22,4 +22,3 @@ pub mod InUse
 pub mod Held
 pub mod NextBlock
 pub mod Reckoning
-pub mod Shown

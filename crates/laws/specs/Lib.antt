@@ -2,4 +2,3 @@ pub mod Acts
 pub mod Kept
 pub mod Laws
 pub mod Reckoned
-pub mod Shows
