@@ -8,4 +8,3 @@ pub mod Travel
 pub mod RampPlace
 pub mod View
 pub mod Laws
-pub mod Examples

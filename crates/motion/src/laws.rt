@@ -1,6 +1,5 @@
 // Theorems over the definitions that the contracts of this crate cite. Each function is there for its contract alone.
 ghost use Rattle.motion.specs.Laws.{RampRises, RampEnds, LastStep, Drift, Arrives, Held, StaysSafe, Movers, WholeMove, NeverPast, FirstTick, SpeedHeld, Stops};
-ghost use Rattle.motion.specs.Examples.{Examples};
 
 /// The ramp rises by at least 1 a step until its maximum, and ends there.
 pub fn ramp_laws()
@@ -33,9 +32,4 @@ pub fn whole_move_laws()
 /// A stop at ramp step r stands by the r-th braking tick.
 pub fn stop_law()
     ensures { Stops }
-{}
-
-/// The worked examples: every row of the table comes out as it should.
-pub fn examples()
-    ensures { Examples }
 {}
