@@ -1,14 +1,12 @@
--- Laws over whole runs of acts on a drive, and the worked example of a play.
-use Rattle.std.specs.Prelude.{◌≡◌, ℕ, true, List, [], ◌∷◌, ℤ, pos, negsuc}
+-- Laws over whole runs of acts on a drive; pulses of a layer, one by one.
+use Rattle.std.specs.Prelude.{◌≡◌, ℕ, List, [], ◌∷◌}
 use Rattle.drives.specs.declared.direction.Direction.{Direction}
-use Rattle.drives.specs.declared.direction.Direction.TheVariants.{Forward, Backward}
 use Rattle.drives.specs.declared.drive.Drive.{Ghosts}
 use Rattle.drives.specs.declared.take_up.Counts.{Counts}
 use Rattle.drives.specs.declared.take_up.TakeUp.{TakeUp}
 use Rattle.drives.specs.declared.replay.Act.{Act}
 use Rattle.drives.specs.declared.replay.Act.TheVariants.{Pulse, Level}
 use Rattle.drives.specs.Meaning.{Meaning, Sound, answered, pulsed, levelled, turned}
-use Rattle.drives.specs.Stage.{stage_at}
 use Rattle.drives.specs.Play.{layer, beneath}
 
 -- what one act, and a list of acts, makes of a drive
@@ -52,12 +50,3 @@ both l = record { layer = (layer_means l).count; below = l.below.count }
 abbrev pub trail : List Direction → Layer → List Counts
 trail [] l = []
 trail (d ∷ ds) l = both (after d l) ∷ trail ds (after d l)
-
-abbrev stand : ℤ → ℤ → Counts
-stand n k = record { layer = n; below = k }
-
--- a layer of play 3 over a ready stage at 0: forward, forward, backward, forward
-abbrev pub PlayOfThree : Type 0
-PlayOfThree =
-    trail (Forward ∷ Forward ∷ Backward ∷ Forward ∷ []) record { play = 3; flank = Forward; below = stage_at (pos 0) true }
-    ≡ stand (pos 1) (pos 1) ∷ stand (pos 2) (pos 2) ∷ stand (pos 1) (negsuc 1) ∷ stand (pos 2) (pos 2) ∷ []

@@ -1,5 +1,5 @@
 ghost use Rattle.std.specs.Prelude.{◌≡◌};
-ghost use Rattle.drives.specs.Laws.{layer_of, both, PlayOfThree, NoPlay};
+ghost use Rattle.drives.specs.Laws.{layer_of, both, NoPlay};
 ghost use Rattle.drives.specs.TakeUp.{Laid};
 
 use crate::direction::Direction;
@@ -36,7 +36,6 @@ impl<D: Drive> TakeUp<D> {
     /// The counts of the layer and of the drive below.
     pub fn counts(&self) -> Counts
         ensures value { result ≡ both (layer_of D.Drive.meaning self.now) }
-        ensures example { PlayOfThree }
         ensures unplayed { NoPlay }
     {
         Counts {
