@@ -1,5 +1,6 @@
 ghost use Rattle.std.specs.Prelude.{◌≡◌};
 ghost use Rattle.laws.specs.Acts.{new_axis};
+ghost use Rattle.laws.specs.Blocks.{MNumber, TakeOver};
 ghost use Rattle.laws.specs.Laws.{Invariant, NoPulseRefused, Stop, Braking, Shift};
 ghost use Rattle.laws.specs.Reckoned.{Data, Zero, Reference, DriftBound, Limits};
 
@@ -22,6 +23,8 @@ impl<D: Drive> Axis<D> {
         ensures reference { Reference }
         ensures drift_bound { DriftBound }
         ensures limits { Limits }
+        ensures m_number { MNumber }
+        ensures take_over { TakeOver }
     {
         drive.level(false);
         Axis {

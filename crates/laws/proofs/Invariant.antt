@@ -56,7 +56,7 @@ run_keeps [] a k = k
 run_keeps (e ∷ es) a k = run_keeps es (step e a) (act_keeps e.act e.programs a k)
 
 -- a new axis stands without machine data, program or reference
-new_keeps : (m : Meaning) → Sound m → Kept (new_axis m)
+pub new_keeps : (m : Meaning) → Sound m → Kept (new_axis m)
 new_keeps m s = record {
   drive = record { floor = s.floor; low = s.low; high = s.high; ceiling = s.ceiling };
   holds = (refl, refl);

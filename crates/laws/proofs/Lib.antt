@@ -11,6 +11,7 @@ pub mod Data
 pub mod Refusing
 pub mod Plans
 pub mod Numbers
+pub mod Accepting
 pub mod Ordered
 pub mod Invariant
 pub mod OrderValues
@@ -21,4 +22,7 @@ pub mod Stops
 pub mod InUse
 pub mod Held
 pub mod NextBlock
+pub mod Takes
+pub mod MNumber
+pub mod TakeOver
 pub mod Reckoning

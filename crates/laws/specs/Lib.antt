@@ -1,4 +1,5 @@
 pub mod Acts
+pub mod Blocks
 pub mod Kept
 pub mod Laws
 pub mod Reckoned

@@ -2,6 +2,8 @@ use Rattle.laws.proofs.Invariant.{invariant, no_pulse_refused}
 use Rattle.laws.proofs.Stops.{stop, braking_stands}
 use Rattle.laws.proofs.Shifts.{shift}
 use Rattle.laws.proofs.Reckoning.{data_law, zero_law, reference_law, drift_bound, limits}
+use Rattle.laws.proofs.MNumber.{m_number}
+use Rattle.laws.proofs.TakeOver.{take_over}
 use Rattle.axis.proofs.Axis.new.Goals as goal
 
 pub returns-clause-invariant : goal.returns-clause-invariant
@@ -33,3 +35,9 @@ returns-clause-drift_bound c _ = drift_bound
 
 pub returns-clause-limits : goal.returns-clause-limits
 returns-clause-limits c _ = limits
+
+pub returns-clause-m_number : goal.returns-clause-m_number
+returns-clause-m_number c _ = m_number
+
+pub returns-clause-take_over : goal.returns-clause-take_over
+returns-clause-take_over c _ = take_over
