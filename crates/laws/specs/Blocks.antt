@@ -1,6 +1,6 @@
 -- The blocks that an axis takes of its programs, over every run of acts on a new axis: the M number that they show, and where
 -- the move of a block goes.
-use Rattle.std.specs.Prelude.{◌≡◌, ℕ, Bool, cond, ◌||◌, List, [], ◌∷◌, ◌++◌, ℤ, Some, None, Option, ◌==◌}
+use Rattle.std.specs.Prelude.{◌≡◌, ℕ, Bool, cond, ◌||◌, List, [], ◌∷◌, ◌++◌, Some, None, Option, ◌==◌}
 use Rattle.std.specs.Option.{unwrap_or, option_or}
 use Rattle.reader.specs.declared.block.Block.{Block}
 use Rattle.drives.specs.Meaning.{Meaning, Sound}
@@ -9,6 +9,7 @@ use Rattle.states.specs.State.{Course, Travel, Phase, standing, moving, braking,
 use Rattle.states.specs.Observation.{Shown, observed}
 use Rattle.orders.specs.Orders.{names_program}
 use Rattle.ticks.specs.Blocks.{next_block}
+use Rattle.ticks.specs.Ticks.{tick_step}
 use Rattle.laws.specs.Acts.{Act, entering, deleting, ordering, levelling, ticking, Event, step, new_axis, after}
 use Rattle.laws.specs.Laws.{is_accepted}
 
@@ -66,60 +67,19 @@ MNumber = (m : Meaning) → Sound m → (es : List Event) → ShowsM (observed (
 
 -- THE TAKE-OVER
 
--- the target and the rate of a move
-abbrev pub aim_of : Travel → ℤ × ℕ
-aim_of t = (t.target, t.going.rate)
+-- the move under way, braked or not
+abbrev pub move_of : Phase → Option Travel
+move_of standing = None
+move_of (moving t) = Some t
+move_of (braking t) = Some t
+move_of (held c u) = None
+move_of (between c) = None
 
--- after a tick, by what the axis then does: a move that it has begun has an aim of its own
-abbrev pub aim_begun : Phase → Option (ℤ × ℕ) → Option (ℤ × ℕ)
-aim_begun standing o = o
-aim_begun (moving t) o = Some (aim_of t)
-aim_begun (braking t) o = o
-aim_begun (held c u) o = o
-aim_begun (between c) o = o
-
--- a tick begins a move only between two blocks
-abbrev pub aim_ticked : Phase → Phase → Option (ℤ × ℕ) → Option (ℤ × ℕ)
-aim_ticked standing ph o = o
-aim_ticked (moving t) ph o = o
-aim_ticked (braking t) ph o = o
-aim_ticked (held c u) ph o = o
-aim_ticked (between c) ph o = aim_begun ph o
-
--- an order begins none of a block, and a take-over resumes one
-abbrev pub aim_after : Act → Phase → Phase → Option (ℤ × ℕ) → Option (ℤ × ℕ)
-aim_after (entering d) before ph o = o
-aim_after deleting before ph o = o
-aim_after (ordering x) before ph o = o
-aim_after (levelling begin end ready) before ph o = o
-aim_after ticking before ph o = aim_ticked before ph o
-
-abbrev pub aim_next : Event → AxisState → Option (ℤ × ℕ) → Option (ℤ × ℕ)
-aim_next e a o = aim_after e.act a.status.work.phase (step e a).status.work.phase o
-
--- the target and the rate with which the last block that moves set off
-abbrev pub block_aim : AxisState → List Event → Option (ℤ × ℕ) → Option (ℤ × ℕ)
-block_aim a [] o = o
-block_aim a (e ∷ es) o = block_aim (step e a) es (aim_next e a o)
-
--- the move of a block, if it is one, has the aim with which its block set off
-abbrev pub OfBlock : Option Course → Travel → Option (ℤ × ℕ) → Type 0
-OfBlock None t o = Unit {0}
-OfBlock (Some c) t o = o ≡ Some (aim_of t)
-
--- a held program keeps the target, if its block did not reach it
-abbrev pub Unreached : Option ℤ → Option (ℤ × ℕ) → Type 0
-Unreached None o = Unit {0}
-Unreached (Some target) o = (rate : ℕ) × (o ≡ Some (target, rate))
-
-abbrev pub GoesOnAs : Phase → Option (ℤ × ℕ) → Type 0
-GoesOnAs standing o = Unit {0}
-GoesOnAs (moving t) o = OfBlock t.course t o
-GoesOnAs (braking t) o = OfBlock t.course t o
-GoesOnAs (held c u) o = Unreached u o
-GoesOnAs (between c) o = Unit {0}
-
--- however often a block is stopped and taken over, its move goes to the target, at the rate, with which the block set off
+-- a tick begins the move t of a block; in what follows, until a further block is taken, a move u of a program is that block's:
+-- however often it was stopped and taken over, it goes to the target of t, at the rate of t
 abbrev pub TakeOver : Type 0
-TakeOver = (m : Meaning) (es : List Event)
-    → GoesOnAs (after (new_axis m) es).status.work.phase (block_aim (new_axis m) es None)
+TakeOver = (a : AxisState) (p : Programs) (c d : Course) (t u : Travel) (later : List Event)
+    → a.status.work.phase ≡ between c → (tick_step p a).status.work.phase ≡ moving t
+    → blocks_taken (tick_step p a) later [] ≡ []
+    → move_of (after (tick_step p a) later).status.work.phase ≡ Some u → u.course ≡ Some d
+    → (u.target ≡ t.target) × (u.going.rate ≡ t.going.rate)
