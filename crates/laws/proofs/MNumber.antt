@@ -41,9 +41,9 @@ act_shows : (e : Event) (a : AxisState) (bs : List Block) → Kept a → Shows b
     → Shows (taken_next e a bs) (step e a).status.work
 act_shows e a bs k h =
     let w = a.status.work in
-    act_takes e.programs a k.shown bs Shows (λ n v i ph f. i)
+    act_takes e.programs a bs Shows (λ n v s i ph f. i)
     (λ c b v ph i j l s f. more_shown bs b w.auxiliary v.auxiliary (h (ap runs_programs (sym j) ∙ f)) l)
-    (λ v s c f. (s f).1 ∙ h (s f).0) e.act
+    (λ v s c f. (s k.shown f).1 ∙ h (s k.shown f).0) e.act
 
 run_shows : (es : List Event) (a : AxisState) (bs : List Block) → Kept a → Shows bs a.status.work
     → Shows (blocks_taken a es bs) (after a es).status.work

@@ -1,12 +1,12 @@
 -- What an act makes of the blocks taken, of the M number and of the program in use: an accepted start begins anew, a tick takes a
 -- block, and all else leaves them.
-use Rattle.std.proofs.Common.{◌≡◌, ℕ, Bool, true, false, cond, List, [], ◌∷◌, ◌++◌, ℤ, Some, None, Ok, Err, Option, Result, refl, sym, ap, ◌∙◌, subst, is_ok}
+use Rattle.std.proofs.Common.{◌≡◌, ℕ, Bool, true, false, cond, List, [], ◌∷◌, ◌++◌, ℤ, Some, None, Ok, Err, Option, Result, refl, sym, ap, ◌∙◌, subst, is_ok, is_some}
 use Rattle.std.proofs.lemmas.Bool.{false≢true}
 use Rattle.std.specs.Option.{unwrap_or}
 use Rattle.reader.specs.declared.block.Block.{Block}
 use Rattle.motion.specs.declared.raw.RawData.{RawData}
 use Rattle.motion.specs.Travel.{Going}
-use Rattle.store.specs.Programs.{Programs}
+use Rattle.store.specs.Programs.{Programs, found}
 use Rattle.states.specs.declared.aim.Aim.{Aim}
 use Rattle.states.specs.declared.order.Order.{Order}
 use Rattle.states.specs.declared.fault.Cause.{Cause}
@@ -26,11 +26,12 @@ use Rattle.laws.specs.Acts.{Act, entering, deleting, ordering, levelling, tickin
 use Rattle.laws.specs.Kept.{Quiet}
 use Rattle.laws.specs.Blocks.{block_to_come, with_block, taken_after, runs_programs}
 use Rattle.laws.proofs.InUse.{Such}
+use Rattle.laws.proofs.Held.{begins_stored}
 use Rattle.laws.proofs.Accepting.{other_mode, accepted_by}
 
--- in modes 8 and 9: so it was, and with this M number
+-- in modes 8 and 9: so it was, and with this M number, if no program is held in another mode
 abbrev pub SameM : Work → Work → Type 0
-SameM w v = runs_programs v.mode ≡ true → (runs_programs w.mode ≡ true) × (v.auxiliary ≡ w.auxiliary)
+SameM w v = Quiet w → runs_programs v.mode ≡ true → (runs_programs w.mode ≡ true) × (v.auxiliary ≡ w.auxiliary)
 
 -- a program in use is the one of before
 abbrev pub SameIn : Option Course → Option Course → Type 0
@@ -80,12 +81,12 @@ slowed_in false g t count x w = same_in t.course
 
 -- mode and M number of a move stay
 ran_m : (b : Bool) (g : Going) (t : Travel) (count : ℤ) (x : Option RawData) (w : Work) → SameM w (ran b g t count x w)
-ran_m true g t count x w = λ f. (f, refl)
-ran_m false g t count x w = λ f. (f, refl)
+ran_m true g t count x w = λ q f. (f, refl)
+ran_m false g t count x w = λ q f. (f, refl)
 
 slowed_m : (b : Bool) (g : Going) (t : Travel) (count : ℤ) (x : Option RawData) (w : Work) → SameM w (slowed b g t count x w)
-slowed_m true g t count x w = λ f. (f, refl)
-slowed_m false g t count x w = λ f. (f, refl)
+slowed_m true g t count x w = λ q f. (f, refl)
+slowed_m false g t count x w = λ q f. (f, refl)
 
 -- a program is held in modes 8 and 9 alone
 used_mode : (b : Bool) (n : ℕ) (o : Option Course) (c : Course) → (b ≡ false → (n ≡ 2) × (o ≡ None)) → o ≡ Some c → b ≡ true
@@ -93,20 +94,20 @@ used_mode true n o c q e = refl
 used_mode false n o c q e = let none = (q refl).1 in cc
 
 -- what holds of each of these holds of an axis after an act, and of the blocks then taken
-module _ (p : Programs) (a : AxisState) (q : Quiet a.status.work) (bs : List Block) (G : List Block → Work → Type 0)
-    (begins : (n : ℕ) (v : Work) → v.auxiliary ≡ 2 → v.phase ≡ between (opening n) → G [] v)
+module _ (p : Programs) (a : AxisState) (bs : List Block) (G : List Block → Work → Type 0)
+    (begins : (n : ℕ) (v : Work) → is_some (found n p.stored) ≡ true → v.auxiliary ≡ 2 → v.phase ≡ between (opening n) → G [] v)
     (takes : (c : Course) (b : Block) (v : Work) → a.status.work.phase ≡ between c → next_block p c ≡ Some b
     → v.mode ≡ a.status.work.mode → v.auxiliary ≡ unwrap_or b.auxiliary a.status.work.auxiliary
     → Such (λ d. d ≡ with_words b c) (course_of v.phase) → G (bs ++ b ∷ []) v)
     (stays : (v : Work) → SameM a.status.work v → SameIn (course_of a.status.work.phase) (course_of v.phase) → G bs v) where
   -- nothing is done
   same : G bs a.status.work
-  same = stays a.status.work (λ f. (f, refl)) (same_in (course_of a.status.work.phase))
+  same = stays a.status.work (λ q f. (f, refl)) (same_in (course_of a.status.work.phase))
 
   -- machine data, entered or deleted: mode 4
   data_takes : (o : Option Cause) (x : Option RawData) (zero : ℤ)
       → G (cond (is_ok (call_reply o)) bs bs) (unless o a.status (with_data x (cleared zero a.status.work) a.status)).work
-  data_takes None x zero = stays (cleared zero a.status.work) (λ f. absurd (false≢true f)) tt
+  data_takes None x zero = stays (cleared zero a.status.work) (λ q f. absurd (false≢true f)) tt
   data_takes (Some c) x zero = same
 
   -- AN ORDER
@@ -118,11 +119,11 @@ module _ (p : Programs) (a : AxisState) (q : Quiet a.status.work) (bs : List Blo
 
   -- a mode other than 8 and 9
   apart : (o : Order) (v : Work) → v.mode ≡ o.mode → runs_programs o.mode ≡ false → SameM a.status.work v
-  apart o v e i = λ f. absurd (false≢true (sym i ∙ ap runs_programs (sym e) ∙ f))
+  apart o v e i = λ q f. absurd (false≢true (sym i ∙ ap runs_programs (sym e) ∙ f))
 
   -- a take-over
-  goes_on : (c : Course) → course_of a.status.work.phase ≡ Some c → runs_programs a.status.work.mode ≡ true
-  goes_on c e =
+  goes_on : (c : Course) → course_of a.status.work.phase ≡ Some c → Quiet a.status.work → runs_programs a.status.work.mode ≡ true
+  goes_on c e q =
       used_mode (runs_programs a.status.work.mode) a.status.work.auxiliary (course_of a.status.work.phase) c q e
 
   order_takes : (r : Result Plan Cause) (o : Order) → verdict o p a.drive a.status ≡ r
@@ -131,17 +132,17 @@ module _ (p : Programs) (a : AxisState) (q : Quiet a.status.work) (bs : List Blo
       let moved = λ (x : Aim). set_off a.status.machine x None (taken o.mode a.status.work) in
       let begun = with_phase (between (opening o.byte)) (taken o.mode a.status.work) in
       accepted_by o p a.drive a.status (λ v. G (cond (names_program o) [] bs) v)
-      (λ n. unnamed o (halted a.status.work) n (λ f. (f, refl)) (stopped_in a.status.work.phase))
-      (λ n. unnamed o (with_fault None a.status.work) n (λ f. (f, refl)) (same_in (course_of a.status.work.phase)))
+      (λ n. unnamed o (halted a.status.work) n (λ q f. (f, refl)) (stopped_in a.status.work.phase))
+      (λ n. unnamed o (with_fault None a.status.work) n (λ q f. (f, refl)) (same_in (course_of a.status.work.phase)))
       (λ v i j s. unnamed o v (other_mode o j) (apart o v i j) (subst (λ (ph : Phase). SameIn (course_of a.status.work.phase) (course_of ph)) (sym s) tt))
       (λ x j. unnamed o (moved x) (other_mode o j) (apart o (moved x) refl j) tt)
-      (λ n d r y. subst (λ (b : Bool). G (cond b [] bs) begun) (sym n) (begins o.byte begun refl refl))
-      (λ n c i. unnamed o _ n (λ f. (goes_on c (ap course_of i), refl)) (ap course_of i))
-      (λ n d i c target j. unnamed o _ n (λ f. (goes_on c (ap course_of j), refl)) (ap course_of j))
+      (λ n d r y. subst (λ (b : Bool). G (cond b [] bs) begun) (sym n) (begins o.byte begun (begins_stored o p d y) refl refl))
+      (λ n c i. unnamed o _ n (λ q f. (goes_on c (ap course_of i) q, refl)) (ap course_of i))
+      (λ n d i c target j. unnamed o _ n (λ q f. (goes_on c (ap course_of j) q, refl)) (ap course_of j))
       plan e
   order_takes (Err cause) o e =
       let f = order_fault o a.status.work.phase cause in
-      stays (refused_by f a.status.work) (λ g. (g, refl)) (refused_in _ a.status.work.phase)
+      stays (refused_by f a.status.work) (λ q g. (g, refl)) (refused_in _ a.status.work.phase)
 
   -- A TICK
 
@@ -151,7 +152,7 @@ module _ (p : Programs) (a : AxisState) (q : Quiet a.status.work) (bs : List Blo
       → G (cond (is_ok (trouble_reply o t)) bs bs) (unless_trouble o t a next).status.work
   move_takes None t next e s c =
       stays next.status.work s (subst (λ (o : Option Course). SameIn o (course_of next.status.work.phase)) (sym e) c)
-  move_takes (Some cause) t next e s c = stays _ (λ f. (f, refl)) tt
+  move_takes (Some cause) t next e s c = stays _ (λ q f. (f, refl)) tt
 
   -- of a block
   module _ (c : Course) (b : Block) (e : a.status.work.phase ≡ between c) (i : next_block p c ≡ Some b) where
@@ -159,7 +160,7 @@ module _ (p : Programs) (a : AxisState) (q : Quiet a.status.work) (bs : List Blo
         → G (cond (is_ok (begun_reply v (with_words b c))) (bs ++ b ∷ []) bs)
         (begun_with v a.status.machine (with_words b c) a.status.work)
     begun_takes (Ok aim) = takes c b _ e i refl refl refl
-    begun_takes (Err cause) = stays _ (λ f. (f, refl)) tt
+    begun_takes (Err cause) = stays _ (λ q f. (f, refl)) tt
 
     block_takes : (x : Option ℤ)
         → G (cond (is_ok (block_reply x (with_words b c) a.drive a.status.machine a.status.work)) (bs ++ b ∷ []) bs)
@@ -170,7 +171,7 @@ module _ (p : Programs) (a : AxisState) (q : Quiet a.status.work) (bs : List Blo
   next_takes : (o : Option Block) (c : Course) → a.status.work.phase ≡ between c → next_block p c ≡ o
       → G (cond (is_ok (next_reply o c a.drive a.status.machine a.status.work)) (with_block o bs) bs)
       (next_run o c a.drive a.status.machine a.status.work)
-  next_takes None c e i = stays _ (λ f. (f, refl)) tt
+  next_takes None c e i = stays _ (λ q f. (f, refl)) tt
   next_takes (Some b) c e i = block_takes c b e i b.target
 
   tick_takes : (ph : Phase) → a.status.work.phase ≡ ph

@@ -43,7 +43,7 @@ abbrev EachFine : Machine → Type 0
 EachFine s = (w : Which) → Fine s.programs (axis_at w s).status.work.phase
 
 -- OTHER PROGRAMS, among which the one that is in use is the same
-abbrev SameFor : Option Course → Programs → Programs → Type 0
+abbrev pub SameFor : Option Course → Programs → Programs → Type 0
 SameFor o p q = (c : Course) → o ≡ Some c → InStore p c → found c.program q.stored ≡ found c.program p.stored
 
 such_still : (p q : Programs) (o : Option Course) → SameFor o p q → Such (InStore p) o → Such (InStore q) o
@@ -90,18 +90,18 @@ kept_still true true k p s e = found_still k p s.stored e
 kept_still true false k p s e = refl
 kept_still false c k p s e = refl
 
-closed_still : (o : Option Program) (n k : ℕ) (s : Programs) → is_some (found k s.stored) ≡ true
+pub closed_still : (o : Option Program) (n k : ℕ) (s : Programs) → is_some (found k s.stored) ≡ true
     → found k (closed_from o n s).stored ≡ found k s.stored
 closed_still None n k s e = refl
 closed_still (Some p) n k s e = kept_still (eqb p.number n) (closable p.blocks) k p s e
 
 -- a program of another number than the one that is deleted
-other_number : (n : ℕ) (o : Option Course) (c : Course) → is_of n o ≡ false → o ≡ Some c → c.program ≢ n
+pub other_number : (n : ℕ) (o : Option Course) (c : Course) → is_of n o ≡ false → o ≡ Some c → c.program ≢ n
 other_number n None c f e = cc
 other_number n (Some d) c f e = λ i. grind arith
 
 -- a program that no axis uses is used by none of them
-no_axis : (w : Which) (n : ℕ) (s : Machine) → in_use n s ≡ false → uses_in n (axis_at w s) ≡ false
+pub no_axis : (w : Which) (n : ℕ) (s : Machine) → in_use n s ≡ false → uses_in n (axis_at w s) ≡ false
 no_axis first n s e = grind arith
 no_axis second n s e = grind arith
 no_axis third n s e = grind arith

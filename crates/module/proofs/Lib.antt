@@ -3,6 +3,7 @@ pub mod Axes
 pub mod Histories
 pub mod Standing
 pub mod InUse
+pub mod Blocks
 pub mod Promised
 pub mod Used
 pub mod Worked

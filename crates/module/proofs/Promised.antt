@@ -19,6 +19,7 @@ use Rattle.module.proofs.Axes.{events, after_at}
 use Rattle.module.proofs.Histories.{history_of, history_same, data_same, zero_same, offset_same, tool_same, reference_same}
 use Rattle.module.proofs.Standing.{stop_law}
 use Rattle.module.proofs.InUse.{programs_in_use}
+use Rattle.module.proofs.Blocks.{blocks_in_order}
 
 -- an axis that is new in s, and what it was asked and answered in the calls
 module _ (w : Which) (m : Meaning) (sound : Sound m) (s : Machine) (q : axis_at w s ≡ one.new_axis m) (calls : List Call)
@@ -97,4 +98,4 @@ module _ (x y z : Meaning) (sx : Sound x) (sy : Sound y) (sz : Sound z) (calls :
 
   -- a run that is exact keeps the promise
   pub promised : (x′ y′ z′ : Meaning) → Exact x y z calls answers x′ y′ z′ → Promise x y z calls answers x′ y′ z′
-  promised x′ y′ z′ e = record { exact = e; no_drift = no_drift e.replies; in_use = programs_in_use x y z calls }
+  promised x′ y′ z′ e = record { exact = e; no_drift = no_drift e.replies; in_use = programs_in_use x y z calls; blocks = blocks_in_order x y z calls }

@@ -5,6 +5,7 @@ pub mod Replies
 pub mod Made
 pub mod History
 pub mod Given
+pub mod Blocks
 pub mod InUse
 pub mod Refusals
 pub mod Promise
