@@ -97,7 +97,9 @@ impl<D: Drive> Axis<D> {
     }
 
     fn levels(&self) -> Levels
-        ensures { result ≡ record { switches = record { begin = self.now.status.begin; end = self.now.status.end }; ready = self.now.drive.ready } }
+        ensures begin { result.switches.begin ≡ self.now.status.begin }
+        ensures end { result.switches.end ≡ self.now.status.end }
+        ensures ready { result.ready ≡ self.now.drive.ready }
     {
         Levels {
             switches: self.status.switches,

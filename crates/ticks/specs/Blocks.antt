@@ -30,11 +30,6 @@ with_words b c = record {
   auxiliary = b.auxiliary;
 }
 
--- a program that takes its next block, if one is left
-abbrev pub with_next : Option Block → Course → Course
-with_next None c = c
-with_next (Some b) c = with_words b c
-
 -- M00 holds
 abbrev pub holds_by : Option ℕ → Bool
 holds_by None = false
@@ -105,6 +100,14 @@ next_reply (Some b) c m machine w = block_reply b.target (with_words b c) m mach
 
 abbrev pub next_block : Programs → Course → Option Block
 next_block p c = block_in (found c.program p.stored) c.taken
+
+-- a program that takes its next block, if one is left
+abbrev pub with_next : Option Block → Course → Course
+with_next None c = c
+with_next (Some b) c = with_words b c
+
+abbrev pub next_course : Programs → Course → Course
+next_course p c = with_next (next_block p c) c
 
 abbrev pub take_step : Programs → Course → Meaning → Status → Status
 take_step p c m s = with_work (next_run (next_block p c) c m s.machine s.work) s

@@ -4,7 +4,7 @@ ghost use Rattle.states.specs.Shift.{offset_by};
 ghost use Rattle.states.specs.Courses.{course_rate};
 ghost use Rattle.states.specs.State.{with_work};
 ghost use Rattle.states.specs.View.{raw_in, course_in, work_of, status_of};
-ghost use Rattle.ticks.specs.Blocks.{block_target, target_verdict, block_verdict, showing, begun_with, begun_reply, Begins, begin_reply, next_block, with_next};
+ghost use Rattle.ticks.specs.Blocks.{block_target, target_verdict, block_verdict, showing, begun_with, begun_reply, Begins, begin_reply, next_block, next_course};
 
 use crate::moving::after_block;
 use reader::{Block, Way};
@@ -15,7 +15,7 @@ use store::Store;
 /// Takes the next block of a program: its words take effect in the run, before its X is reckoned.
 pub fn take(run: &mut Run, store: &Store) -> Option<Block>
     ensures value { result ≡ next_block store.now (course_in run.old) }
-    ensures after { course_in run.new ≡ with_next (next_block store.now (course_in run.old)) (course_in run.old) }
+    ensures after { course_in run.new ≡ next_course store.now (course_in run.old) }
 {
     let block = store.block(run.program, usize::from(run.taken))?;
     run.taken += 1;
