@@ -1,12 +1,13 @@
 -- A program that an axis runs or holds stays stored through every run of calls, so that 17 is never answered.
-use Rattle.std.proofs.Common.{◌≡◌, ◌≢◌, ℕ, zero, suc, add-one, Bool, true, false, cond, eqb, ◌||◌, List, [], ◌∷◌, ◌++◌, is_some, Some, None, Ok, Err, Option, Result, refl, sym, ap, ◌∙◌, subst, arith}
-use Rattle.std.proofs.lemmas.Bool.{eqb-true, false≢true}
+use Rattle.std.proofs.Common.{◌≡◌, ◌≢◌, ℕ, zero, suc, add-one, Bool, true, false, not, cond, eqb, ◌&&◌, ◌||◌, List, [], ◌∷◌, ◌++◌, is_some, Some, None, Ok, Err, Option, Result, refl, sym, ap, ◌∙◌, subst, arith}
+use Rattle.std.proofs.lemmas.Bool.{eqb-true}
 use Rattle.std.proofs.lemmas.Option.{same_Some}
 use Rattle.std.specs.List.{AllByRecursion}
 use Rattle.drives.specs.Meaning.{Meaning}
 use Rattle.store.specs.declared.fault.StoreFault.{StoreFault}
 use Rattle.store.specs.declared.fault.StoreFault.TheVariants.{NotStored}
 use Rattle.reader.specs.declared.block.Block.{Block}
+use Rattle.reader.specs.Words.{ends_by}
 use Rattle.store.specs.Programs.{Program, Programs, empty, found, block_at, block_in}
 use Rattle.store.specs.Laws as stored
 use Rattle.store.specs.Laws.{Call as StoreCall, opening, adding, closing, abandoning, deleting, EndsOnce}
@@ -20,6 +21,7 @@ use Rattle.states.specs.declared.fault.Cause.TheVariants.{HeldNotStored}
 use Rattle.states.specs.declared.fault.AxisFault.{AxisFault}
 use Rattle.states.specs.Faults.{cause_number}
 use Rattle.states.specs.State.{Course, Phase, standing, moving, braking, held, between, AxisState, course_of, is_of}
+use Rattle.ticks.specs.Blocks.{next_block}
 use Rattle.laws.specs.Acts as one
 use Rattle.laws.proofs.InUse.{Such}
 use Rattle.laws.proofs.Held.{InStore, Other, act_stored, act_other}
@@ -32,7 +34,7 @@ use Rattle.module.specs.declared.fault.Fault.TheVariants.{OfStore, InUse}
 use Rattle.module.specs.State.{Machine}
 use Rattle.module.specs.Machine.{Reply, done, refused, answered, done_or, at_axis, at_store, uses_in, in_use, reply, with_programs, step, new_machine, after, replies}
 use Rattle.module.specs.History.{Which, first, second, third, axis_at, act_on}
-use Rattle.module.specs.InUse.{InUseStored, RunningHasNext, OtherThan, ProgramsInUse}
+use Rattle.module.specs.InUse.{InUseStored, amid_block, ProgramHasNext, OtherThan, ProgramsInUse}
 use Rattle.module.proofs.Axes.{left_by, store_alone, step_at}
 
 -- an axis whose program is stored and has a next block
@@ -50,22 +52,22 @@ such_still : (p q : Programs) (o : Option Course) → SameFor o p q → Such (In
 such_still p q None h u = tt
 such_still p q (Some c) h u = ap is_some (h c refl u) ∙ u
 
--- the block that comes is the same
-block_still : (p q : Programs) (c : Course) → SameFor (Some c) p q → InStore p c → HasNext p c → HasNext q c
-block_still p q c h u n = ap (λ (o : Option Program). is_some (block_in o c.taken)) (h c refl u) ∙ n
+-- there is a block to come just where there was one
+block_still : (p q : Programs) (c : Course) → SameFor (Some c) p q → InStore p c → is_some (next_block q c) ≡ is_some (next_block p c)
+block_still p q c h u = ap (λ (o : Option Program). is_some (block_in o c.taken)) (h c refl u)
 
 its_still : (p q : Programs) (o : Option Course) → SameFor o p q → Such (InStore p) o → Such (NextUnlessEnded p) o
     → Such (NextUnlessEnded q) o
 its_still p q None h u n = tt
-its_still p q (Some c) h u n = λ e. block_still p q c h u (n e)
+its_still p q (Some c) h u n = block_still p q c h u ∙ n
 
 next_still : (p q : Programs) (ph : Phase) → SameFor (course_of ph) p q → Fine p ph → NextIn q ph
 next_still p q standing h u = tt
 next_still p q (moving t) h u = its_still p q t.course h u.0 u.1
 next_still p q (braking t) h u = its_still p q t.course h u.0 u.1
 next_still p q (held c (Some target)) h u = its_still p q (Some c) h u.0 u.1
-next_still p q (held c None) h u = block_still p q c h u.0 u.1
-next_still p q (between c) h u = block_still p q c h u.0 u.1
+next_still p q (held c None) h u = (block_still p q c h u.0 ∙ u.1.0, u.1.1)
+next_still p q (between c) h u = (block_still p q c h u.0 ∙ u.1.0, u.1.1)
 
 programs_fine : (q : Programs) (s : Machine) → ((w : Which) → SameFor (course_of (axis_at w s).status.work.phase) s.programs q)
     → EachFine s → EachFine (with_programs q s)
@@ -123,30 +125,38 @@ some_first : (front : List Block) (last : Block) → is_some (block_at (front ++
 some_first [] last = refl
 some_first (b ∷ front) last = grind arith
 
--- the blocks after the first
+-- the first block
+head_at : (b : Block) (bs : List Block) → block_at (b ∷ bs) 0 ≡ Some b
+head_at b bs = grind arith
+
+-- the blocks after it
 tail_at : (b : Block) (bs : List Block) (k : ℕ) → block_at (b ∷ bs) (suc k) ≡ block_at bs k
 tail_at b bs k = grind arith
 
 none_at : (k : ℕ) → block_at [] k ≡ None
 none_at k = grind arith
 
--- a block that does not end the program is not the last
-not_last : (front : List Block) (last : Block) (k : ℕ) (b : Block) → ends last ≡ true → block_at (front ++ last ∷ []) k ≡ Some b
-    → ends b ≡ false → is_some (block_at (front ++ last ∷ []) (suc k)) ≡ true
-not_last [] last zero b l e h = absurd (false≢true (sym h ∙ ap ends (sym (same_Some last b e)) ∙ l))
-not_last [] last (suc k) b l e h =
+-- a block is the last just where it ends the program
+last_ends : (front : List Block) (last : Block) (k : ℕ) (b : Block) → ends last ≡ true
+    → ((a : List Block) (d : Block) (c : List Block) → front ≡ a ++ d ∷ c → ends d ≡ false) → block_at (front ++ last ∷ []) k ≡ Some b
+    → is_some (block_at (front ++ last ∷ []) (suc k)) ≡ not (ends b)
+last_ends [] last zero b l f e =
+    ap is_some (tail_at last [] 0 ∙ none_at 0) ∙ ap not (sym l ∙ ap ends (same_Some last b e))
+last_ends [] last (suc k) b l f e =
     let none = none_at k in
     let tail = tail_at last [] k in
     cc
-not_last (x ∷ front) last zero b l e h = ap is_some (tail_at x (front ++ last ∷ []) 0) ∙ some_first front last
-not_last (x ∷ front) last (suc k) b l e h =
+last_ends (x ∷ front) last zero b l f e =
+    ap is_some (tail_at x (front ++ last ∷ []) 0) ∙ some_first front last
+    ∙ ap not (sym (f [] x front refl) ∙ ap ends (same_Some x b (sym (head_at x (front ++ last ∷ [])) ∙ e)))
+last_ends (x ∷ front) last (suc k) b l f e =
     ap is_some (tail_at x (front ++ last ∷ []) (suc k))
-    ∙ not_last front last k b l (sym (tail_at x (front ++ last ∷ []) k) ∙ e) h
+    ∙ last_ends front last k b l (λ a d c i. f (x ∷ a) d c (ap (λ (bs : List Block). x ∷ bs) i)) (sym (tail_at x (front ++ last ∷ []) k) ∙ e)
 
 once_goes_on : (bs : List Block) → EndsOnce bs → GoesOn bs
 once_goes_on bs o =
     let last = o.1 in
-    subst GoesOn (sym o.2) (some_first o.0 last, λ k b e h. rw add-one (not_last o.0 last k b o.3 e h))
+    subst GoesOn (sym o.2) (some_first o.0 last, λ k b e. rw add-one (last_ends o.0 last k b o.3 o.4 e))
 
 -- the programs are those of a new store after these calls
 abbrev InRun : Machine → Type 0
@@ -270,9 +280,21 @@ in_use_stored s u n e =
     one_of (uses_in n s.first) (uses_in n s.second) (uses_in n s.third) (of_axis n _ s.programs (u first).0)
     (of_axis n _ s.programs (u second).0) (of_axis n _ s.programs (u third).0) e
 
--- a program that runs is between blocks before it takes one
-running_next : (s : Machine) → EachFine s → RunningHasNext s
-running_next s u w c e = subst (NextIn s.programs) e (u w).1
+-- the program of a phase has its next block
+such_at : (P : Course → Type 0) (o : Option Course) (c : Course) → Such P o → o ≡ Some c → P c
+such_at P o c u e = subst (Such P) e u
+
+next_in : (p : Programs) (ph : Phase) (c : Course) → NextIn p ph → course_of ph ≡ Some c
+    → is_some (next_block p c) ≡ not (amid_block ph && ends_by c.auxiliary)
+next_in p standing c u e = cc
+next_in p (moving t) c u e = such_at (NextUnlessEnded p) t.course c u e
+next_in p (braking t) c u e = such_at (NextUnlessEnded p) t.course c u e
+next_in p (held d (Some target)) c u e = such_at (NextUnlessEnded p) (Some d) c u e
+next_in p (held d None) c u e = (such_at (HasNext p) (Some d) c u e).0
+next_in p (between d) c u e = (such_at (HasNext p) (Some d) c u e).0
+
+program_next : (s : Machine) → EachFine s → ProgramHasNext s
+program_next s u w c e = next_in s.programs (axis_at w s).status.work.phase c (u w).1 e
 
 -- a new module uses no program
 new_fine : (x y z : Meaning) → EachFine (new_machine x y z)
@@ -287,6 +309,6 @@ programs_in_use x y z calls =
     let u = after_fine calls s r (new_fine x y z) in
     record {
       stored = in_use_stored (after s calls) u;
-      next = running_next (after s calls) u;
+      next = program_next (after s calls) u;
       never_17 = replies_other calls s r (new_fine x y z);
     }
