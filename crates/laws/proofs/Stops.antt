@@ -1,6 +1,6 @@
 -- A braking axis comes to stand, and so does an axis after an accepted stop.
 use Rattle.std.proofs.Common.{◌≡◌, ℕ, ◌+◌, ◌-◌, ◌≤◌, max, Bool, true, false, eqb, List, [], ◌∷◌, Some, None, Option, sym, refl, ap, ◌∙◌, subst, inl, inr, arith}
-use Rattle.std.proofs.lemmas.Bool.{eqb-false}
+use Rattle.std.proofs.lemmas.Bool.{eqb-false, false≢true}
 use Rattle.drives.specs.Meaning.{Meaning}
 use Rattle.motion.specs.Travel.{Going}
 use Rattle.store.specs.Programs.{Programs}
@@ -10,24 +10,39 @@ use Rattle.states.specs.Moves.{braked_in}
 use Rattle.orders.specs.Questions.{verdict}
 use Rattle.ticks.specs.Moving.{with_going, slowed, sent_on}
 use Rattle.ticks.specs.Ticks.{trouble_of, unless_trouble, slow_step, tick_at, tick_step}
-use Rattle.laws.specs.Acts.{Act, entering, deleting, ordering, levelling, ticking, Event, act_step, order_axis, is_tick, step, ticks}
+use Rattle.laws.specs.Acts.{Act, entering, deleting, ordering, levelling, ticking, Event, act_step, order_axis, is_tick, step, after, ticks}
 use Rattle.laws.specs.Kept.{Kept}
-use Rattle.laws.specs.Laws.{ramp_step, stands_in, rest_of, RestsIn, StandsWithin, Stop, Braking}
+use Rattle.laws.specs.Laws.{ramp_step, stands_in, rest_of, RestsIn, EndsInTick, StandsWithin, Stop, Braking}
 use Rattle.laws.proofs.Invariant.{act_keeps, invariant}
 use Rattle.laws.proofs.Brakes.{stop_phase, act_brakes, step_down, short_stands}
 
 -- an axis that stands already
 stands_now : (n : ℕ) (p : Phase) (a : AxisState) (es : List Event) → stands_in a ≡ true → RestsIn p a → StandsWithin n p a es
-stands_now n p a es h r = ([], es, refl, omega arith, h, r)
+stands_now n p a es h r = ([], es, refl, omega arith, h, r, inl refl)
+
+-- a tick before a run that is empty or ends in a tick
+tick_before : (p : Programs) (es : List Event) → EndsInTick es → EndsInTick (record { act = ticking; programs = p } ∷ es)
+tick_before p es (inl z) = inr ([], p, ap (λ (l : List Event). record { act = ticking; programs = p } ∷ l) z)
+tick_before p es (inr t) = inr (
+  record { act = ticking; programs = p } ∷ t.0,
+  t.1,
+  ap (λ (l : List Event). record { act = ticking; programs = p } ∷ l) t.2,
+)
+
+-- any act before a run that makes an axis stand which did not: that run is not empty
+act_before : (e : Event) (a : AxisState) (es : List Event) → stands_in a ≡ false → stands_in (after a es) ≡ true → EndsInTick es
+    → EndsInTick (e ∷ es)
+act_before e a es f h (inl z) = absurd (false≢true (sym f ∙ ap (λ (l : List Event). stands_in (after a l)) (sym z) ∙ h))
+act_before e a es f h (inr t) = inr (e ∷ t.0, t.1, ap (λ (l : List Event). e ∷ l) t.2)
 
 -- one act more
-stands_after : (n k : ℕ) (p : Phase) (e : Event) (a : AxisState) (es : List Event) → StandsWithin k p (step e a) es
-    → is_tick e.act + k ≤ n → StandsWithin n p a (e ∷ es)
-stands_after n k p e a es s h = (e ∷ s.0, s.1, ap (λ (l : List Event). e ∷ l) s.2, omega arith, s.4, s.5)
+stands_after : (n k : ℕ) (p : Phase) (e : Event) (a : AxisState) (es : List Event) (s : StandsWithin k p (step e a) es)
+    → is_tick e.act + k ≤ n → EndsInTick (e ∷ s.0) → StandsWithin n p a (e ∷ es)
+stands_after n k p e a es s h t = (e ∷ s.0, s.1, ap (λ (l : List Event). e ∷ l) s.2, omega arith, s.4, s.5, t)
 
 -- more ticks
 stands_later : (n k : ℕ) (p : Phase) (a : AxisState) (es : List Event) → StandsWithin k p a es → k ≤ n → StandsWithin n p a es
-stands_later n k p a es s h = (s.0, s.1, s.2, omega arith, s.4, s.5)
+stands_later n k p a es s h = (s.0, s.1, s.2, omega arith, s.4, s.5, s.6)
 
 -- the run that follows stands in time, from any braking axis
 abbrev Comes : List Event → Type 0
@@ -81,8 +96,11 @@ other_comes : (act : Act) (p : Programs) (es : List Event) → is_tick act ≡ 0
     → Comes (record { act = act; programs = p } ∷ es)
 other_comes act p es z ih a t k e h =
     let n = max t.going.step 1 in
-    stands_after n n (rest_of (braking t)) record { act = act; programs = p } a es
-    (ih (act_step act p a) t (act_keeps act p a k) (act_brakes act p a t e z) (omega arith)) (omega arith)
+    let b = act_step act p a in
+    let i = act_brakes act p a t e z in
+    let s = ih b t (act_keeps act p a k) i (omega arith) in
+    stands_after n n (rest_of (braking t)) record { act = act; programs = p } a es s (omega arith)
+    (act_before record { act = act; programs = p } b s.0 (ap stands i) s.4 s.6)
 
 -- any act
 act_comes : (act : Act) (p : Programs) (es : List Event) → Comes es
@@ -94,7 +112,8 @@ act_comes (levelling begin end ready) p es ih a t k e h =
     other_comes (levelling begin end ready) p es refl ih a t k e h
 act_comes ticking p es ih a t k e h =
     let n = max t.going.step 1 in
-    stands_after n (n - 1) (rest_of (braking t)) record { act = ticking; programs = p } a es (tick_comes es ih p a t k e h) (omega arith)
+    let s = tick_comes es ih p a t k e h in
+    stands_after n (n - 1) (rest_of (braking t)) record { act = ticking; programs = p } a es s (omega arith) (tick_before p s.0 s.6)
 
 -- every run
 comes : (es : List Event) → Comes es

@@ -62,11 +62,16 @@ rest_of (between c) = held c None
 abbrev pub RestsIn : Phase → AxisState → Type 0
 RestsIn p a = (a.status.work.phase ≡ p) ⊎ (a.status.work.referenced ≡ false)
 
--- some front of a run with at most n ticks leaves the axis standing, at rest in p
+-- a run is empty, or its last act is a tick
+abbrev pub EndsInTick : List Event → Type 0
+EndsInTick es =
+    (es ≡ []) ⊎ ((front : List Event) × (p : Programs) × (es ≡ front ++ record { act = ticking; programs = p } ∷ []))
+
+-- some front of a run with at most n ticks, that is empty or ends in a tick, leaves the axis standing, at rest in p
 abbrev pub StandsWithin : ℕ → Phase → AxisState → List Event → Type 0
 StandsWithin n p a later =
     (soon : List Event) × (rest : List Event) × (later ≡ soon ++ rest) × (ticks soon ≤ n)
-    × (stands_in (after a soon) ≡ true) × RestsIn p (after a soon)
+    × (stands_in (after a soon) ≡ true) × RestsIn p (after a soon) × EndsInTick soon
 
 -- wherever a run is split at an accepted stop: once what follows has max(r, 1) ticks, r the ramp step before the stop, the
 -- axis has come to stand within them, whatever comes between, and holds the program that ran

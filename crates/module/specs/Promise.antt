@@ -1,5 +1,5 @@
 -- What a run of calls on a new module promises.
-use Rattle.std.specs.Prelude.{◌≡◌, ℕ, ◌≤◌, max, true, false, List, [], ◌∷◌, ◌++◌, ℤ, pos, ◌+ℤ◌, ◌-ℤ◌, map, vec_items, Some, None, Ok, Err, Result}
+use Rattle.std.specs.Prelude.{◌≡◌, ◌⊎◌, ℕ, ◌≤◌, max, true, false, List, [], ◌∷◌, ◌++◌, ℤ, pos, ◌+ℤ◌, ◌-ℤ◌, map, vec_items, Some, None, Ok, Err, Result}
 use Rattle.drives.specs.Meaning.{Meaning, Sound}
 use Rattle.motion.specs.declared.raw.RawData.{RawData}
 use Rattle.motion.specs.Laws.{Near}
@@ -56,11 +56,16 @@ ShiftLaw w s calls hs = course_of (axis_at w (after s calls)).status.work.phase 
 abbrev pub LimitsLaw : Which → Machine → List Call → List PastAct → Type 0
 LimitsLaw w s calls hs = (d : RawData) → data_in hs None ≡ Some d → reference_in hs false ≡ true → InLimits d (shows w s calls).coordinate
 
--- once the calls that follow have n ticks of the axis, some front of them with at most n leaves it standing, at rest in p
+-- there are no calls, or the last of them is a tick of the axis
+abbrev pub EndsInTick : Which → List Call → Type 0
+EndsInTick w calls = (calls ≡ []) ⊎ ((front : List Call) × (calls ≡ front ++ OnAxis (number w) act.Tick ∷ []))
+
+-- once the calls that follow have n ticks of the axis, some front of them with at most n, that is empty or ends in such a
+-- tick, leaves it standing, at rest in p
 abbrev pub StandsWithin : Which → ℕ → Phase → Machine → List Call → Type 0
 StandsWithin w n p s later = n ≤ ticks_of w later
     → (soon : List Call) × (rest : List Call) × (later ≡ soon ++ rest) × (ticks_of w soon ≤ n)
-    × (stands_in (axis_at w (after s soon)) ≡ true) × RestsIn p (axis_at w (after s soon))
+    × (stands_in (axis_at w (after s soon)) ≡ true) × RestsIn p (axis_at w (after s soon)) × EndsInTick w soon
 
 -- wherever the calls are split at an accepted stop of the axis, with r the ramp step of its move before it, it stands within
 -- max(r, 1) ticks, whatever calls come between, and holds the program that ran, unless 23 or 24 has taken the reference
