@@ -207,7 +207,7 @@ module _ (P Q : Bool → Course → Type 0) (amid : (r : Bool) (c : Course) → 
   trouble_using (Some cause) t a next u = tt
 
   -- by what the axis is doing
-  tick_using : (ph : Phase) (p : Programs) (a : AxisState)
+  pub tick_using : (ph : Phase) (p : Programs) (a : AxisState)
       → ((c : Course) (b : Block) → next_block p c ≡ Some b → Q a.status.work.referenced c
       → P a.status.work.referenced (with_words b c))
       → InPhase (P a.status.work.referenced) (Q a.status.work.referenced) ph → Using a.status.work
@@ -247,7 +247,7 @@ module _ (P Q : Bool → Course → Type 0) (amid : (r : Bool) (c : Course) → 
 
 -- THE SAME of a program amid a block and between its blocks
 
-in_phase : (P : Course → Type 0) (ph : Phase) → Such P (course_of ph) → InPhase P P ph
+pub in_phase : (P : Course → Type 0) (ph : Phase) → Such P (course_of ph) → InPhase P P ph
 in_phase P standing u = tt
 in_phase P (moving t) u = u
 in_phase P (braking t) u = u
@@ -255,7 +255,7 @@ in_phase P (held c None) u = u
 in_phase P (held c (Some target)) u = u
 in_phase P (between c) u = u
 
-in_course : (P : Course → Type 0) (ph : Phase) → InPhase P P ph → Such P (course_of ph)
+pub in_course : (P : Course → Type 0) (ph : Phase) → InPhase P P ph → Such P (course_of ph)
 in_course P standing u = tt
 in_course P (moving t) u = u
 in_course P (braking t) u = u

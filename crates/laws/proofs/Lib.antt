@@ -25,4 +25,5 @@ pub mod NextBlock
 pub mod Takes
 pub mod MNumber
 pub mod TakeOver
+pub mod Started
 pub mod Reckoning

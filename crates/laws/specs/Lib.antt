@@ -3,3 +3,4 @@ pub mod Blocks
 pub mod Kept
 pub mod Laws
 pub mod Reckoned
+pub mod Started

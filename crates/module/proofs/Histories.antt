@@ -7,10 +7,11 @@ use Rattle.states.specs.State.{AxisState}
 use Rattle.laws.specs.Acts as one
 use Rattle.laws.specs.Laws.{offset_after, tool_after, offset_given, tool_given}
 use Rattle.laws.specs.Reckoned as reckoned
+use Rattle.laws.specs.Started.{program_after, program_given}
 use Rattle.module.specs.declared.call.Call.{Call}
 use Rattle.module.specs.State.{Machine}
 use Rattle.module.specs.Machine.{Reply, done_or, at_axis, step, reply, replies}
-use Rattle.module.specs.History.{Which, number, axis_at, act_on, PastAct, with_act, history, is_done, data_next, data_in, zero_next, zero_in, offset_in, tool_in, reference_next, reference_in}
+use Rattle.module.specs.History.{Which, number, axis_at, act_on, PastAct, with_act, history, is_done, data_next, data_in, program_in, zero_next, zero_in, offset_in, tool_in, reference_next, reference_in}
 use Rattle.module.proofs.Axes.{left_by, step_at, reply_to, IsReply, reply_at, one_more, events}
 
 -- what an axis with this number is asked by an event, and answers
@@ -56,6 +57,15 @@ data_same n (e ∷ es) a o =
     data_same n es b (data_next (past_act n e a) o)
     ∙ ap (λ (k : Bool). reckoned.data_given b es (cond k (reckoned.data_after e.act o) o))
     (done_same n (one.act_reply e.act e.programs a))
+
+-- the program of the last accepted start
+pub program_same : (n : ℕ) (es : List one.Event) (a : AxisState) (x : Option ℕ)
+    → program_in (history_of n a es) x ≡ program_given a es x
+program_same n [] a x = refl
+program_same n (e ∷ es) a x =
+    let b = one.step e a in
+    program_same n es b (program_after e.act (is_done (reply_to n e.act e.programs a)) x)
+    ∙ ap (λ (k : Bool). program_given b es (program_after e.act k x)) (done_same n (one.act_reply e.act e.programs a))
 
 -- the count at zero
 pub zero_same : (n : ℕ) (es : List one.Event) (a : AxisState) (o : Option RawData) (z : ℤ)

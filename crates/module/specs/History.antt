@@ -5,6 +5,7 @@ use Rattle.states.specs.State.{AxisState}
 use Rattle.laws.specs.Acts as one
 use Rattle.laws.specs.Laws.{offset_after, tool_after}
 use Rattle.laws.specs.Reckoned.{data_after, zero_after}
+use Rattle.laws.specs.Started.{program_after}
 use Rattle.module.specs.declared.call.Act.{Act}
 use Rattle.module.specs.declared.call.Act.TheVariants.{Enter, Delete, Order, Level, Tick, Observe}
 use Rattle.module.specs.declared.call.Call.{Call}
@@ -73,6 +74,11 @@ data_next h o = cond (is_done h.reply) (data_after h.act o) o
 abbrev pub data_in : List PastAct → Option RawData → Option RawData
 data_in [] o = o
 data_in (h ∷ hs) o = data_in hs (data_next h o)
+
+-- the program of the last accepted start, until something ends it
+abbrev pub program_in : List PastAct → Option ℕ → Option ℕ
+program_in [] n = n
+program_in (h ∷ hs) n = program_in hs (program_after h.act (is_done h.reply) n)
 
 -- the zero that the last zeroing set
 abbrev pub zero_next : PastAct → Option RawData → ℤ → ℤ

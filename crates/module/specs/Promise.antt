@@ -1,11 +1,11 @@
 -- What a run of calls on a new module promises.
-use Rattle.std.specs.Prelude.{◌≡◌, ◌⊎◌, ℕ, ◌≤◌, max, true, false, List, [], ◌∷◌, ◌++◌, ℤ, pos, ◌+ℤ◌, ◌-ℤ◌, map, vec_items, Some, None, Ok, Err, Result}
+use Rattle.std.specs.Prelude.{◌≡◌, ◌⊎◌, ℕ, ◌≤◌, max, true, false, ◌||◌, List, [], ◌∷◌, ◌++◌, ℤ, pos, ◌+ℤ◌, ◌-ℤ◌, map, vec_items, is_some, Some, None, Ok, Err, Option, Result, ◌==◌}
 use Rattle.drives.specs.Meaning.{Meaning, Sound}
 use Rattle.motion.specs.declared.raw.RawData.{RawData}
 use Rattle.motion.specs.Laws.{Near}
 use Rattle.states.specs.declared.order.Order.{Order}
 use Rattle.states.specs.declared.fault.AxisFault.{AxisFault}
-use Rattle.states.specs.State.{Phase, course_of}
+use Rattle.states.specs.State.{Course, Phase, course_of}
 use Rattle.states.specs.Observation.{Shown, observed}
 use Rattle.orders.specs.Modes.{stops}
 use Rattle.laws.specs.Kept.{InLimits}
@@ -18,7 +18,7 @@ use Rattle.module.specs.declared.three.NotMade.{NotMade}
 use Rattle.module.specs.declared.runs.Ran.{Ran}
 use Rattle.module.specs.Machine.{Reply, done, new_machine, step, reply, after, replies}
 use Rattle.module.specs.Replies.{reply_by}
-use Rattle.module.specs.History.{Which, number, axis_at, PastAct, history, data_in, zero_in, offset_in, tool_in, reference_in, ticks_of}
+use Rattle.module.specs.History.{Which, number, axis_at, PastAct, history, data_in, program_in, zero_in, offset_in, tool_in, reference_in, ticks_of}
 use Rattle.module.specs.Given.{accepted, sets_offset, adds_offset, sets_tool, adds_tool, LastAndAfter}
 use Rattle.module.specs.InUse.{ProgramsInUse}
 use Rattle.module.specs.Blocks.{taken_in, BlocksInOrder}
@@ -52,6 +52,10 @@ abbrev pub ShiftLaw : Which → Machine → List Call → List PastAct → Type 
 ShiftLaw w s calls hs = course_of (axis_at w (after s calls)).status.work.phase ≡ None
     → (shows w s calls).shift ≡ offset_in hs (pos 0) +ℤ tool_in hs (pos 0)
 
+-- and so it is where by the calls no program runs or is held
+abbrev pub ShiftByCalls : Which → Machine → List Call → List PastAct → Type 0
+ShiftByCalls w s calls hs = program_in hs None ≡ None → (shows w s calls).shift ≡ offset_in hs (pos 0) +ℤ tool_in hs (pos 0)
+
 -- with a reference, the coordinate is within the limits
 abbrev pub LimitsLaw : Which → Machine → List Call → List PastAct → Type 0
 LimitsLaw w s calls hs = (d : RawData) → data_in hs None ≡ Some d → reference_in hs false ≡ true → InLimits d (shows w s calls).coordinate
@@ -83,17 +87,42 @@ PulsesTaken w s calls = TakenIn (axis_at w (after s calls)).status.work.phase (a
 pub record NoDrift (w : Which) (s : Machine) (calls : List Call) (hs : List PastAct) : Type 0 where
   pub drift : DriftBound w s calls hs
   pub shift : ShiftLaw w s calls hs
+  pub shift_by_calls : ShiftByCalls w s calls hs
   pub offset : LastAndAfter sets_offset adds_offset (accepted hs) (offset_in hs (pos 0))
   pub tool : LastAndAfter sets_tool adds_tool (accepted hs) (tool_in hs (pos 0))
   pub limits : LimitsLaw w s calls hs
   pub stop : StopLaw w s calls
   pub taken : PulsesTaken w s calls
 
+-- THE PROGRAM of one axis
+
+abbrev pub course : Which → Machine → List Call → Option Course
+course w s calls = course_of (axis_at w (after s calls)).status.work.phase
+
+-- a program runs or is held only after an accepted start that named it, with nothing since that ends it
+abbrev pub StartedLaw : Which → Machine → List Call → List PastAct → Type 0
+StartedLaw w s calls hs = (c : Course) → course w s calls ≡ Some c → program_in hs None ≡ Some c.program
+
+-- outside modes 8 and 9 the M number is 2, and no program runs or is held
+abbrev pub QuietLaw : Which → Machine → List Call → Type 0
+QuietLaw w s calls = ((shows w s calls).mode == 8 || (shows w s calls).mode == 9) ≡ false
+    → ((shows w s calls).auxiliary ≡ 2) × (course w s calls ≡ None)
+
+-- a program that runs or is held has a reference
+abbrev pub ReferencedLaw : Which → Machine → List Call → List PastAct → Type 0
+ReferencedLaw w s calls hs = is_some (course w s calls) ≡ true → reference_in hs false ≡ true
+
+pub record ProgramLaw (w : Which) (s : Machine) (calls : List Call) (hs : List PastAct) : Type 0 where
+  pub started : StartedLaw w s calls hs
+  pub quiet : QuietLaw w s calls
+  pub referenced : ReferencedLaw w s calls hs
+
 -- THE PROMISE
 pub record Promise (x y z : Meaning) (calls : List Call) (answers : List Reply) (x′ y′ z′ : Meaning) : Type 0 where
   pub exact : Exact x y z calls answers x′ y′ z′
   pub no_drift : (w : Which) → NoDrift w (new_machine x y z) calls (history w (new_machine x y z) calls answers)
   pub in_use : ProgramsInUse x y z calls
+  pub program : (w : Which) → ProgramLaw w (new_machine x y z) calls (history w (new_machine x y z) calls answers)
   pub blocks : (w : Which) → BlocksInOrder w (after (new_machine x y z) calls) (taken_in w (new_machine x y z) calls [])
 
 -- from any module that calls have reached: a call, with what it is answered and what it leaves, keeps the promise of the calls
