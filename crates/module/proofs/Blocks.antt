@@ -1,15 +1,17 @@
 -- An axis takes the blocks of its program in their order, each once, through every run of calls.
 use Rattle.std.proofs.Common.{◌≡◌, ℕ, ◌+◌, Bool, true, false, cond, List, [], ◌∷◌, ◌++◌, length, is_some, Some, None, Option, refl, sym, ap, ◌∙◌, subst, arith}
 use Rattle.std.proofs.lemmas.List.{append_assoc, length-append}
-use Rattle.drives.specs.Meaning.{Meaning}
+use Rattle.drives.specs.Meaning.{Meaning, Sound}
 use Rattle.reader.specs.declared.block.Block.{Block}
 use Rattle.store.specs.Programs.{Program, Programs, found, block_at, block_in}
 use Rattle.store.specs.Entry.{deleted}
 use Rattle.store.proofs.Laws.{changes}
 use Rattle.states.specs.State.{Course, AxisState, course_of}
+use Rattle.states.specs.Observation.{observed}
 use Rattle.ticks.specs.Blocks.{with_words, next_block}
 use Rattle.laws.specs.Acts as one
-use Rattle.laws.specs.Blocks.{taken_next}
+use Rattle.laws.specs.Blocks.{taken_next, blocks_taken, ShowsM}
+use Rattle.laws.proofs.MNumber.{m_number}
 use Rattle.laws.proofs.InUse.{Such}
 use Rattle.laws.proofs.Takes.{SameIn, act_takes}
 use Rattle.module.specs.declared.call.Call.{Call}
@@ -17,8 +19,8 @@ use Rattle.module.specs.declared.call.Call.TheVariants.{OnAxis, Open, Add, Close
 use Rattle.module.specs.State.{Machine}
 use Rattle.module.specs.Machine.{in_use, with_programs, step, new_machine, after}
 use Rattle.module.specs.History.{Which, first, second, third, axis_at, act_on}
-use Rattle.module.specs.Blocks.{taken_by, taken_in, InOrder, BlocksInOrder}
-use Rattle.module.proofs.Axes.{left_by, step_at}
+use Rattle.module.specs.Blocks.{taken_by, taken_in, InOrder, BlocksInOrder, ProgramBlocks}
+use Rattle.module.proofs.Axes.{left_by, step_at, one_more as with_event, events, after_at}
 use Rattle.module.proofs.InUse.{SameFor, closed_still, no_axis, other_number}
 
 -- the blocks taken are the first of the stored program, as many as it counts
@@ -158,8 +160,43 @@ in_order p bs o c e h =
       next = next_left p bs c u.0 u.1 u.2 u.3 u.4;
     }
 
-pub blocks_in_order : (x y z : Meaning) (calls : List Call) (w : Which)
+blocks_in_order : (x y z : Meaning) (calls : List Call) (w : Which)
     → BlocksInOrder w (after (new_machine x y z) calls) (taken_in w (new_machine x y z) calls [])
 blocks_in_order x y z calls w c e =
     let s = new_machine x y z in
     in_order (after s calls).programs (taken_in w s calls []) _ c e (after_front w calls s [] (new_front x y z w))
+
+-- THE M NUMBER
+
+-- the blocks taken in a run of calls are those that the events of the axis take
+taken_one : (o : Option one.Act) (p : Programs) (a : AxisState) (es : List one.Event) (bs : List Block)
+    → blocks_taken (left_by o p a) es (taken_by o p a bs) ≡ blocks_taken a (with_event o p es) bs
+taken_one None p a es bs = refl
+taken_one (Some act) p a es bs = refl
+
+taken_same : (w : Which) (cs : List Call) (s : Machine) (bs : List Block)
+    → taken_in w s cs bs ≡ blocks_taken (axis_at w s) (events w s cs) bs
+taken_same w [] s bs = refl
+taken_same w (c ∷ cs) s bs =
+    let es = events w (step c s) cs in
+    let ds = taken_by (act_on w c) s.programs (axis_at w s) bs in
+    taken_same w cs (step c s) ds ∙ ap (λ (a : AxisState). blocks_taken a es ds) (step_at w c s)
+    ∙ taken_one (act_on w c) s.programs (axis_at w s) es bs
+
+m_number_of : (w : Which) (m : Meaning) → Sound m → (s : Machine) → axis_at w s ≡ one.new_axis m → (calls : List Call)
+    → ShowsM (observed (axis_at w (after s calls)).status) (taken_in w s calls [])
+m_number_of w m sound s q calls =
+    let es = events w s calls in
+    rw (after_at w calls s, taken_same w calls s [])
+    (subst (λ (a : AxisState). ShowsM (observed (one.after a es).status) (blocks_taken a es [])) (sym q) (m_number m sound es))
+
+m_number_at : (x y z : Meaning) → Sound x → Sound y → Sound z → (calls : List Call) (w : Which)
+    → ShowsM (observed (axis_at w (after (new_machine x y z) calls)).status) (taken_in w (new_machine x y z) calls [])
+m_number_at x y z sx sy sz calls first = m_number_of first x sx (new_machine x y z) refl calls
+m_number_at x y z sx sy sz calls second = m_number_of second y sy (new_machine x y z) refl calls
+m_number_at x y z sx sy sz calls third = m_number_of third z sz (new_machine x y z) refl calls
+
+pub program_blocks : (x y z : Meaning) → Sound x → Sound y → Sound z → (calls : List Call) (w : Which)
+    → ProgramBlocks w (after (new_machine x y z) calls) (taken_in w (new_machine x y z) calls [])
+program_blocks x y z sx sy sz calls w =
+    record { order = blocks_in_order x y z calls w; m_number = m_number_at x y z sx sy sz calls w }

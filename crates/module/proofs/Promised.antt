@@ -22,7 +22,7 @@ use Rattle.module.proofs.Axes.{events, after_at}
 use Rattle.module.proofs.Histories.{history_of, history_same, data_same, program_same, zero_same, offset_same, tool_same, reference_same}
 use Rattle.module.proofs.Standing.{stop_law}
 use Rattle.module.proofs.InUse.{programs_in_use}
-use Rattle.module.proofs.Blocks.{blocks_in_order}
+use Rattle.module.proofs.Blocks.{program_blocks}
 
 -- a program that was not started does not run
 none_started : (o : Option Course) (n : Option ℕ) → ((c : Course) → o ≡ Some c → n ≡ Some c.program) → n ≡ None → o ≡ None
@@ -145,5 +145,5 @@ module _ (x y z : Meaning) (sx : Sound x) (sy : Sound y) (sz : Sound z) (calls :
     no_drift = λ w. (each_axis e.replies w).0;
     in_use = programs_in_use x y z calls;
     program = λ w. (each_axis e.replies w).1;
-    blocks = blocks_in_order x y z calls;
+    blocks = program_blocks x y z sx sy sz calls;
   }

@@ -3,9 +3,10 @@ use Rattle.std.specs.Prelude.{◌≡◌, List, [], ◌∷◌, ◌++◌, length, 
 use Rattle.reader.specs.declared.block.Block.{Block}
 use Rattle.store.specs.Programs.{Program, Programs, found, block_at}
 use Rattle.states.specs.State.{Course, AxisState, course_of}
+use Rattle.states.specs.Observation.{observed}
 use Rattle.ticks.specs.Blocks.{next_block}
 use Rattle.laws.specs.Acts as one
-use Rattle.laws.specs.Blocks.{taken_next}
+use Rattle.laws.specs.Blocks.{taken_next, ShowsM}
 use Rattle.module.specs.declared.call.Call.{Call}
 use Rattle.module.specs.State.{Machine}
 use Rattle.module.specs.Machine.{step}
@@ -33,3 +34,8 @@ pub record InOrder (p : Programs) (c : Course) (bs : List Block) : Type 0 where
 -- so it is with the program that an axis runs or holds
 abbrev pub BlocksInOrder : Which → Machine → List Block → Type 0
 BlocksInOrder w s bs = (c : Course) → course_of (axis_at w s).status.work.phase ≡ Some c → InOrder s.programs c bs
+
+-- and the M number shown is that of the blocks taken
+pub record ProgramBlocks (w : Which) (s : Machine) (bs : List Block) : Type 0 where
+  pub order : BlocksInOrder w s bs
+  pub m_number : ShowsM (observed (axis_at w s).status) bs

@@ -21,7 +21,7 @@ use Rattle.module.specs.Replies.{reply_by}
 use Rattle.module.specs.History.{Which, number, axis_at, PastAct, history, data_in, program_in, zero_in, offset_in, tool_in, reference_in, ticks_of}
 use Rattle.module.specs.Given.{accepted, sets_offset, adds_offset, sets_tool, adds_tool, LastAndAfter}
 use Rattle.module.specs.InUse.{ProgramsInUse}
-use Rattle.module.specs.Blocks.{taken_in, BlocksInOrder}
+use Rattle.module.specs.Blocks.{taken_in, ProgramBlocks}
 use Rattle.module.specs.State.{Machine}
 
 -- EXACT: the replies, and the drives after the calls, are the machine's
@@ -123,7 +123,7 @@ pub record Promise (x y z : Meaning) (calls : List Call) (answers : List Reply) 
   pub no_drift : (w : Which) → NoDrift w (new_machine x y z) calls (history w (new_machine x y z) calls answers)
   pub in_use : ProgramsInUse x y z calls
   pub program : (w : Which) → ProgramLaw w (new_machine x y z) calls (history w (new_machine x y z) calls answers)
-  pub blocks : (w : Which) → BlocksInOrder w (after (new_machine x y z) calls) (taken_in w (new_machine x y z) calls [])
+  pub blocks : (w : Which) → ProgramBlocks w (after (new_machine x y z) calls) (taken_in w (new_machine x y z) calls [])
 
 -- from any module that calls have reached: a call, with what it is answered and what it leaves, keeps the promise of the calls
 -- before it
