@@ -1,1 +1,3 @@
 pub mod NextTick
+pub mod Unplayed
+pub mod Making

@@ -1,1 +1,3 @@
+pub mod Drives
+pub mod Bench
 pub mod Ticks

@@ -3,13 +3,16 @@ ghost use Rattle.module.specs.declared.call.Act.TheVariants.{Tick};
 ghost use Rattle.module.specs.declared.call.Call.TheVariants.{OnAxis};
 ghost use Rattle.module.specs.Machine.{reply, step};
 ghost use Rattle.module.specs.Replies.{reply_by, refusal_in};
+ghost use Rattle.rail.specs.declared.bench.NotMade.TheVariants.{Drive as DriveRefused};
+ghost use Rattle.rail.specs.Bench.{NewBench};
 ghost use Rattle.rail.specs.Ticks.{counted};
 
 use crate::account::Account;
-use crate::build::{Layers, Position};
+use crate::build::{Layers, Position, drives_of};
 use crate::fault::Placed;
 use drives::drive::Drive;
-use module::{Answer, Call, Drives, Fault, Module};
+use drives::fault::DriveFault;
+use module::{Answer, Call, Fault, Module};
 use script::Build;
 use std::alloc::{AllocError, Global};
 use std::fmt;
@@ -22,12 +25,28 @@ pub struct Bench {
     pub accounts: [Account; 3],
 }
 
+/// Why there is no bench: a drive that cannot be made, or no memory.
+#[derive(Debug, Drop)]
+pub enum NotMade {
+    Drive(DriveFault),
+    Memory(AllocError),
+}
+
+impl From<DriveFault> for NotMade {
+    ghost from_gives = { λ fault result. result ≡ DriveRefused fault };
+
+    fn from(fault: DriveFault) -> NotMade {
+        NotMade::Drive(fault)
+    }
+}
+
 impl Bench {
-    pub fn new(
-        heap: Global,
-        builds: [Build; 3],
-        drives: Drives<Layers, Layers, Layers>,
-    ) -> Result<Bench, AllocError> {
+    /// Makes the drives that a script asks for, and a new module on them.
+    #[tactic(auto, using(crate::proofs::Making::new_on))]
+    pub fn new(heap: Global, builds: [Build; 3]) -> Result<Bench, NotMade>
+        ensures { NewBench builds result }
+    {
+        let drives = drives_of(builds)?;
         let accounts = [
             Account::new(1, drives.first.count()),
             Account::new(2, drives.second.count()),
@@ -39,7 +58,7 @@ impl Bench {
                 builds,
                 accounts,
             }),
-            Err(not_made) => Err(not_made.error),
+            Err(not_made) => Err(NotMade::Memory(not_made.error)),
         }
     }
 
@@ -53,7 +72,7 @@ impl Bench {
         reply
     }
 
-    // A tick, by its own form: a `Call` holds machine data for an entry and would be copied on its way down.
+    // One tick, kept for the account as a call.
     fn tick(&mut self, axis: u8) -> Result<(), Fault>
         ensures value { result ≡ refusal_in (reply (OnAxis axis Tick) self.old.module) }
         ensures after { self.new.module ≡ step (OnAxis axis Tick) self.old.module }

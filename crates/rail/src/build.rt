@@ -1,3 +1,6 @@
+ghost use Rattle.std.specs.Prelude.{◌≡◌};
+ghost use Rattle.rail.specs.Drives.{stage, over, asked, made, AllMade};
+
 use drives::clock_stage::ClockStage;
 use drives::drive::Drive;
 use drives::fault::DriveFault;
@@ -6,11 +9,13 @@ use module::Drives;
 use script::Build;
 use std::fmt;
 
-// A layer of no play means what the drive below means, so one type serves every build.
+/// Two layers over a stage, of no play where a script asks for none.
 pub type Layers = TakeUp<TakeUp<ClockStage>>;
 
 /// The drives of the three axes.
-pub fn drives_of(builds: [Build; 3]) -> Result<Drives<Layers, Layers, Layers>, DriveFault> {
+pub fn drives_of(builds: [Build; 3]) -> Result<Drives<Layers, Layers, Layers>, DriveFault>
+    ensures { AllMade ⟦<Layers as Drive>⟧.meaning builds result }
+{
     let [first, second, third] = builds;
     Ok(Drives {
         first: drive_of(first)?,
@@ -19,7 +24,10 @@ pub fn drives_of(builds: [Build; 3]) -> Result<Drives<Layers, Layers, Layers>, D
     })
 }
 
-fn drive_of(build: Build) -> Result<Layers, DriveFault> {
+#[tactic(auto, using(crate::proofs::Unplayed::unplayed))]
+fn drive_of(build: Build) -> Result<Layers, DriveFault>
+    ensures { made ⟦<Layers as Drive>⟧.meaning result ≡ asked build }
+{
     match build {
         Build::Clock { count } => layers(0, 0, count),
         Build::TakeUp { play, count } => layers(play, 0, count),
@@ -31,7 +39,9 @@ fn drive_of(build: Build) -> Result<Layers, DriveFault> {
     }
 }
 
-fn layers(outer: u16, inner: u16, count: i64) -> Result<Layers, DriveFault> {
+fn layers(outer: u16, inner: u16, count: i64) -> Result<Layers, DriveFault>
+    ensures { made ⟦<Layers as Drive>⟧.meaning result ≡ over outer (over inner (stage count)) }
+{
     let screw = TakeUp::new(ClockStage::new(count)?, inner)?;
     Ok(TakeUp::new(screw, outer)?)
 }

@@ -6,7 +6,7 @@ use crate::observed::Observed;
 use crate::reading::Reading;
 use drives::drive::Drive;
 use module::{Act, Answer, Call, Drives, run};
-use script::{Build, Line};
+use script::Line;
 use std::alloc::AllocError;
 use std::fmt;
 
@@ -24,18 +24,13 @@ pub struct Rail<'r, 'a> {
 }
 
 impl<'r, 'a> Rail<'r, 'a> {
-    pub fn new(
-        rt: &'r HostRuntime,
-        builds: [Build; 3],
-        drives: Drives<Layers, Layers, Layers>,
-        explain: bool,
-    ) -> anyhow::Result<Rail<'r, 'a>> {
-        Ok(Rail {
+    pub fn new(rt: &'r HostRuntime, bench: Bench, explain: bool) -> Rail<'r, 'a> {
+        Rail {
             rt,
-            bench: Bench::new(rt.alloc(), builds, drives)?,
+            bench,
             explain,
             calls: Vec::new(rt.alloc()),
-        })
+        }
     }
 
     /// Makes a call and prints its answer.

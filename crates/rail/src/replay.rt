@@ -1,3 +1,4 @@
+use crate::bench::{Bench, NotMade};
 use crate::build::drives_of;
 use crate::rail::Rail;
 use drives::fault::DriveFault;
@@ -15,10 +16,19 @@ pub enum Stop {
     Output(#[from] anyhow::Error),
 }
 
+impl From<NotMade> for Stop {
+    fn from(not_made: NotMade) -> Stop {
+        match not_made {
+            NotMade::Drive(fault) => Stop::Drive(fault),
+            NotMade::Memory(error) => Stop::Output(error.into()),
+        }
+    }
+}
+
 /// Makes the drives and the module, then each call in turn, and prints its answer.
 pub fn replay(rt: &HostRuntime, lines: &[&[u8]], explain: bool) -> Result<(), Stop> {
     let builds = Plan::of(lines)?.builds();
-    let mut rail = Rail::new(rt, builds, drives_of(builds)?, explain)?;
+    let mut rail = Rail::new(rt, Bench::new(rt.alloc(), builds)?, explain);
     make_calls(&mut rail, lines)?;
     Ok(rail.account(drives_of(builds)?)?)
 }

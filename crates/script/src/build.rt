@@ -1,5 +1,4 @@
 /// How a script says that a drive is built; the outer layer comes first.
-// A case for each number of layers, since each has other counts to show.
 #[derive(Clone, Copy)]
 pub enum Build {
     Clock { count: i64 },

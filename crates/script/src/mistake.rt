@@ -23,7 +23,7 @@ pub enum Field {
     Number,
 }
 
-// By hand: a word that is wanted is no error, and `thiserror` derives for errors alone.
+// The word, and the values that it may have.
 impl fmt::Display for Field {
     fn fmt<W: fmt::Write>(&self, f: &mut fmt::Formatter<W>) -> fmt::Result {
         let words = match self {
