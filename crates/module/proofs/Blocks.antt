@@ -85,7 +85,8 @@ act_front act p a bs u =
     act_takes p a bs (λ ds v. Such (Front p ds) (course_of v.phase))
     (λ n v s i e. rw e (begins p n (found n p.stored) refl s))
     (λ c b v e i m x s.
-    such_one (Front p (bs ++ b ∷ [])) (with_words b c) (course_of v.phase) (one_more p bs c b i (subst (λ (o : Option Course). Such (Front p bs) o) (ap course_of e) u)) s)
+    let now : Front p bs c = subst (Such (Front p bs)) (ap course_of e) u in
+    such_one (Front p (bs ++ b ∷ [])) (with_words b c) (course_of v.phase) (one_more p bs c b i now) s)
     (λ v m s. such_same (Front p bs) (course_of a.status.work.phase) (course_of v.phase) u s) act
 
 left_front : (o : Option one.Act) (p : Programs) (a : AxisState) (bs : List Block)
