@@ -1,5 +1,5 @@
 -- What holds of the program that an axis runs or holds stays so through every act.
-use Rattle.std.proofs.Common.{◌≡◌, ℕ, Bool, true, false, cond, eqb, ℤ, [], ◌∷◌, Some, None, Ok, Err, Option, Result, refl, sym, subst}
+use Rattle.std.proofs.Common.{◌≡◌, ℕ, Bool, true, false, cond, eqb, ℤ, Some, None, Ok, Err, Option, Result, refl, sym, ap, subst}
 use Rattle.drives.specs.Meaning.{Meaning}
 use Rattle.reader.specs.declared.block.Block.{Block}
 use Rattle.reader.specs.Words.{ends_by}
@@ -9,26 +9,20 @@ use Rattle.store.specs.Programs.{Programs}
 use Rattle.states.specs.declared.aim.Aim.{Aim}
 use Rattle.states.specs.declared.order.Order.{Order}
 use Rattle.states.specs.declared.fault.Cause.{Cause}
-use Rattle.states.specs.declared.fault.Cause.TheVariants.{NotStanding}
-use Rattle.states.specs.declared.mode.Mode.{Mode}
-use Rattle.states.specs.declared.mode.Mode.TheVariants.{Jog, AxisOff, Reference, Position, Relative, Program, OffsetTo, OffsetBy, ClearOffset, ToolTo, ClearTool, ClearFault}
 use Rattle.states.specs.Faults.{cause_number}
-use Rattle.states.specs.Mode.{mode_of}
 use Rattle.states.specs.Moves.{ticked_in, braked_in}
 use Rattle.states.specs.Entry.{cleared, with_data, enter_no, delete_no, unless}
-use Rattle.states.specs.State.{Course, Travel, Phase, standing, moving, braking, held, between, Work, Status, AxisState, with_phase, course_of, stands, stopped}
+use Rattle.states.specs.State.{Course, Travel, Phase, standing, moving, braking, held, between, Work, Status, AxisState, with_phase, course_of, stopped}
 use Rattle.states.specs.Courses.{opening}
 use Rattle.orders.specs.declared.plan.Plan.{Plan}
-use Rattle.orders.specs.declared.plan.Plan.TheVariants.{Halt, Begin}
-use Rattle.orders.specs.Modes.{stops, takes_over}
-use Rattle.orders.specs.Questions.{start_questions, resume_questions, resume_plan, mode_plan, bare_plan, standing_plan, standing_questions, order_questions, plan_for, verdict}
+use Rattle.orders.specs.Questions.{start_questions, verdict}
 use Rattle.orders.specs.Orders.{order_fault, left}
-use Rattle.orders.specs.Effects.{gone_on, carried_out}
 use Rattle.ticks.specs.Blocks.{with_words, block_verdict, begun_with, block_run, next_run, next_block}
 use Rattle.ticks.specs.Moving.{after_move, stopped_short, ran, slowed, sent_on}
 use Rattle.ticks.specs.Ticks.{trouble_of, unless_trouble, run_step, slow_step, tick_at}
 use Rattle.laws.specs.Acts.{Act, entering, deleting, ordering, levelling, ticking, act_step}
-use Rattle.laws.proofs.Asked.{Yes, accepted}
+use Rattle.laws.proofs.Asked.{Yes}
+use Rattle.laws.proofs.Accepting.{accepted_by}
 
 -- a program, if there is one, is such
 abbrev pub Such : (Course → Type 0) → Option Course → Type 0
@@ -72,88 +66,17 @@ module _ (P Q : Bool → Course → Type 0) (amid : (r : Bool) (c : Course) → 
   refused_using true w u = stopped_using w.phase w.referenced u
   refused_using false w u = u
 
-  -- without machine data an order sets the mode or clears the fault
-  bare_using : (mode : Mode) (n : ℕ) (m : Meaning) (w : Work) → Using w → Using (carried_out n (bare_plan mode) m None w)
-  bare_using (Jog j) n m w u = u
-  bare_using AxisOff n m w u = tt
-  bare_using Reference n m w u = u
-  bare_using Position n m w u = u
-  bare_using Relative n m w u = u
-  bare_using (Program k) n m w u = u
-  bare_using OffsetTo n m w u = u
-  bare_using OffsetBy n m w u = u
-  bare_using ClearOffset n m w u = u
-  bare_using ToolTo n m w u = u
-  bare_using ClearTool n m w u = u
-  bare_using ClearFault n m w u = u
-
-  -- a program goes on to its next block, or to its unfinished target
-  goes_on : (ph : Phase) (w : Work) → w.phase ≡ ph → InPhase (P w.referenced) (Q w.referenced) (gone_on ph)
-      → InPhase (P w.referenced) (Q w.referenced) (gone_on w.phase)
-  goes_on ph w e u = subst (λ (x : Phase). InPhase (P w.referenced) (Q w.referenced) (gone_on x)) (sym e) u
-
-  resume_using : (ph : Phase) (n : ℕ) (m : Meaning) (d : RawData) (w : Work) → w.phase ≡ ph
-      → InPhase (P w.referenced) (Q w.referenced) ph → Such (P w.referenced) (course_of w.phase)
-      → Using (carried_out n (resume_plan d m ph w.zero) m (Some d) w)
-  resume_using standing n m d w e u v = goes_on standing w e tt
-  resume_using (moving t) n m d w e u v = goes_on (moving t) w e u
-  resume_using (braking t) n m d w e u v = goes_on (braking t) w e u
-  resume_using (held c None) n m d w e u v = goes_on (held c None) w e u
-  resume_using (held c (Some target)) n m d w e u v = v
-  resume_using (between c) n m d w e u v = goes_on (between c) w e u
-
-  -- a program that begins is between its blocks
-  module _ (o : Order) (p : Programs) (m : Meaning) (w : Work)
-      (begins : (d : RawData) → w.referenced ≡ true → Yes (start_questions d o p) → Q w.referenced (opening o.byte)) (u : Using w) where
-    program_using : (b : Bool) (d : RawData) → w.referenced ≡ true → Yes (cond b (resume_questions p m w.phase) (start_questions d o p))
-        → Using (carried_out o.mode (cond b (resume_plan d m w.phase w.zero) (Begin o.byte)) m (Some d) w)
-    program_using true d r y = resume_using w.phase o.mode m d w refl u (such_in w.phase w.referenced u)
-    program_using false d r y = begins d r y
-
-    -- with machine data
-    mode_using : (d : RawData) (mode : Mode) → Yes (standing_questions mode o p m (Some d) w)
-        → Using (carried_out o.mode (mode_plan mode o m d w) m (Some d) w)
-    mode_using d (Jog j) y = tt
-    mode_using d AxisOff y = tt
-    mode_using d Reference y = tt
-    mode_using d Position y = tt
-    mode_using d Relative y = tt
-    mode_using d (Program k) y = program_using (takes_over o.command) d y.0 y.1.1
-    mode_using d OffsetTo y = tt
-    mode_using d OffsetBy y = tt
-    mode_using d ClearOffset y = tt
-    mode_using d ToolTo y = tt
-    mode_using d ClearTool y = tt
-    mode_using d ClearFault y = u
-
-    -- with or without
-    standing_using : (s : Option RawData) (mode : Mode) → Yes (standing_questions mode o p m s w)
-        → Using (carried_out o.mode (standing_plan mode o m s w) m s w)
-    standing_using None mode y = bare_using mode o.mode m w u
-    standing_using (Some d) mode y = mode_using d mode y
-
-    -- a stop or not
-    command_using : (b : Bool) (s : Option RawData) (mode : Mode)
-        → Yes (cond b [] ((stands w.phase, NotStanding) ∷ standing_questions mode o p m s w))
-        → Using (carried_out o.mode (cond b Halt (standing_plan mode o m s w)) m s w)
-    command_using true s mode y = stopped_using w.phase w.referenced u
-    command_using false s mode y = standing_using s mode y.1
-
-  -- an order of which all is answered yes
-  accepted_using : (mode : Option Mode) (o : Order) (p : Programs) (m : Meaning) (s : Status)
-      → ((d : RawData) → s.work.referenced ≡ true → Yes (start_questions d o p) → Q s.work.referenced (opening o.byte))
-      → Yes (order_questions mode o p m s) → Using s.work → Using (carried_out o.mode (plan_for mode o m s) m s.machine s.work)
-  accepted_using None o p m s b y u = u
-  accepted_using (Some mode) o p m s b y u = command_using o p m s.work b u (stops o.command) s.machine mode y.1.1
-
   -- accepted or refused
   order_using : (v : Result Plan Cause) (o : Order) (p : Programs) (m : Meaning) (s : Status) → verdict o p m s ≡ v
       → ((d : RawData) → s.work.referenced ≡ true → Yes (start_questions d o p) → Q s.work.referenced (opening o.byte))
       → Using s.work → Using (left o m s v).work
   order_using (Ok plan) o p m s e b u =
-      let y = accepted (order_questions (mode_of o.mode) o p m s) (plan_for (mode_of o.mode) o m s) plan e in
-      subst (λ (x : Plan). Using (carried_out o.mode x m s.machine s.work)) y.1
-      (accepted_using (mode_of o.mode) o p m s b y.0 u)
+      let r = s.work.referenced in
+      accepted_by o p m s Using (λ n. stopped_using s.work.phase r u) (λ n. u)
+      (λ v i j z. subst (InPhase (P v.referenced) (Q v.referenced)) (sym z) tt) (λ a i. tt) (λ n d i y. b d i y)
+      (λ n c i. subst (InPhase (P r) (Q r)) i u)
+      (λ n d i c target j. subst (Such (P r)) (ap course_of j) (such_in s.work.phase r u))
+      plan e
   order_using (Err cause) o p m s e b u =
       refused_using (eqb (cause_number (order_fault o s.work.phase cause).cause) 11) s.work u
 
