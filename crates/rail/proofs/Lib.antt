@@ -1,3 +1,2 @@
 pub mod NextTick
 pub mod Unplayed
-pub mod Making

@@ -42,7 +42,6 @@ impl From<DriveFault> for NotMade {
 
 impl Bench {
     /// Makes the drives that a script asks for, and a new module on them.
-    #[tactic(auto, using(crate::proofs::Making::new_on))]
     pub fn new(heap: Global, builds: [Build; 3]) -> Result<Bench, NotMade>
         ensures { NewBench builds result }
     {
