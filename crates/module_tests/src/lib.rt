@@ -13,6 +13,7 @@ mod tests {
     use std::fmt::Debug;
     use std::process::Abort;
     use std::test::Fail;
+    use store::{CloseRefusal, HandedBack};
     use units::Measure;
 
     // What is asked, in fewer words than a call.
@@ -300,6 +301,11 @@ mod tests {
     fn fails(rt: &impl Abort, at: At, module: &mut Stages, trouble: (Ask, u8, Layer, Place)) {
         let (ask, number, layer, place) = trouble;
         let fault = module.call(call_of(ask)).err();
+        tells(rt, at, fault, (number, layer, place));
+    }
+
+    fn tells(rt: &impl Abort, at: At, fault: Option<Fault>, told: (u8, Layer, Place)) {
+        let (number, layer, place) = told;
         same(rt, at, fault.map(|fault| fault.number()), Some(number));
         same(rt, at, fault.map(|fault| fault.layer()), Some(layer));
         same(rt, at, fault.map(|fault| fault.place()), Some(place));
@@ -315,6 +321,52 @@ mod tests {
         let wrong = (Add(7, b"X1 Y2"), 32, Layer::Line, Place::Byte(3));
         fails(&rt, ("program", 7), &mut module, wrong);
         Ok(())
+    }
+
+    fn place(axis: u8, program: u8) -> Place {
+        Place::At {
+            axis,
+            program,
+            block: 0,
+        }
+    }
+
+    // The fault that an axis shows is told with the axis.
+    #[test]
+    fn shown_fault(rt: HostRuntime) -> Result<(), Fail> {
+        let mut module = new_module(rt.alloc())?;
+        let told = (7, Layer::Axis, place(3, 9));
+        let refused = module.call(call_of(Ask::Order(3, 8, Start, 9, 0, 0)));
+        tells(&rt, ("order", 3), refused.err(), told);
+        tells(&rt, ("observe", 3), module.observe(3)?.fault, told);
+        Ok(())
+    }
+
+    // A token whose entry is over is refused with 30, whole, and serves for the next entry of its number.
+    #[test]
+    fn refused_tokens(rt: HostRuntime) -> Result<(), Fail> {
+        let mut module = new_module(rt.alloc())?;
+        let entry = module.open(7, Measure::Inch)?;
+        let _ = module.call(call_of(Abandon(7)));
+        let not_open = (30, Layer::Store, place(0, 7));
+        let Err(refusal) = module.close(entry) else {
+            return Err("a token without its entry closes".into());
+        };
+        tells(&rt, ("close", 7), Some(Fault::from(&refusal)), not_open);
+        let entry = match refusal {
+            CloseRefusal::NotThisOne(HandedBack { entry, fault: _ }) => entry,
+            CloseRefusal::Ended(_) => return Err("a token without its entry is spent".into()),
+        };
+        let Err(back) = module.abandon(entry) else {
+            return Err("a token without its entry abandons".into());
+        };
+        tells(&rt, ("abandon", 7), Some(Fault::from(&back)), not_open);
+        let HandedBack { entry, fault: _ } = back;
+        let _ = module.call(call_of(Open(7, Measure::Inch)));
+        match module.abandon(entry) {
+            Ok(()) => Ok(()),
+            Err(_back) => panic!(rt; "the token of the open entry is refused"),
+        }
     }
 
     // The calls as one list, which has all its memory before the first: the same answers.
