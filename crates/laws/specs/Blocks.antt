@@ -6,6 +6,7 @@ use Rattle.reader.specs.declared.block.Block.{Block}
 use Rattle.drives.specs.Meaning.{Meaning, Sound}
 use Rattle.store.specs.Programs.{Programs}
 use Rattle.states.specs.State.{Course, Travel, Phase, standing, moving, braking, held, between, AxisState}
+use Rattle.states.specs.declared.fault.AxisFault.{AxisFault}
 use Rattle.states.specs.Observation.{Shown, observed}
 use Rattle.orders.specs.Orders.{names_program}
 use Rattle.ticks.specs.Blocks.{next_block}
@@ -59,7 +60,7 @@ runs_programs mode = mode == 8 || mode == 9
 abbrev pub shown_m : ℕ → List Block → ℕ
 shown_m mode bs = cond (runs_programs mode) (unwrap_or (last_m bs) 2) 2
 
-abbrev pub ShowsM : Shown → List Block → Type 0
+abbrev pub ShowsM : Shown AxisFault → List Block → Type 0
 ShowsM o bs = o.auxiliary ≡ shown_m o.mode bs
 
 abbrev pub MNumber : Type 0
