@@ -82,15 +82,15 @@ zeroed_keeps (Some d) m w = (refl, refl)
 
 -- THE EFFECT: what holds of each of these holds of what an accepted order leaves
 module _ (o : Order) (p : Programs) (m : Meaning) (s : Status) (G : Work → Type 0)
-    (halts : names_program o ≡ false → G (halted s.work))
-    (clears : names_program o ≡ false → G (with_fault None s.work))
+    (halts : names_program o ≡ false → stops o.command ≡ true → G (halted s.work))
+    (clears : names_program o ≡ false → o.mode ≡ 17 → G (with_fault None s.work))
     (rests : (v : Work) → v.mode ≡ o.mode → runs_programs o.mode ≡ false → v.phase ≡ standing → G v)
     (moves : (a : Aim) → runs_programs o.mode ≡ false → G (set_off s.machine a None (taken o.mode s.work)))
     (begins : names_program o ≡ true → (d : RawData) → s.work.referenced ≡ true → Yes (start_questions d o p)
     → G (with_phase (between (opening o.byte)) (taken o.mode s.work)))
-    (goes_on : names_program o ≡ false → (c : Course) → s.work.phase ≡ held c None
+    (goes_on : names_program o ≡ false → takes_over o.command ≡ true → (c : Course) → s.work.phase ≡ held c None
     → G (with_phase (between c) (taken_over o.mode s.work)))
-    (resumes : names_program o ≡ false → (d : RawData) → s.machine ≡ Some d → (c : Course) (target : ℤ)
+    (resumes : names_program o ≡ false → takes_over o.command ≡ true → (d : RawData) → s.machine ≡ Some d → (c : Course) (target : ℤ)
     → s.work.phase ≡ held c (Some target)
     → G (set_off s.machine (aim_for d (course_rate d c) target m s.work.zero) (Some c) (taken_over o.mode s.work))) where
   -- an order of another mode than 8 and 9
@@ -98,19 +98,19 @@ module _ (o : Order) (p : Programs) (m : Meaning) (s : Status) (G : Work → Typ
   apart mode e i = subst (λ (n : ℕ). runs_programs n ≡ false) (number_of o.mode mode e) i
 
   -- a take-over, by what the axis is doing
-  resume_by : names_program o ≡ false → (d : RawData) → s.machine ≡ Some d → (ph : Phase) → s.work.phase ≡ ph
+  resume_by : names_program o ≡ false → takes_over o.command ≡ true → (d : RawData) → s.machine ≡ Some d → (ph : Phase) → s.work.phase ≡ ph
       → Yes (resume_questions p m ph)
       → G (carried_out o.mode (resume_plan d m ph s.work.zero) m s.machine s.work)
-  resume_by n d i standing e y = absurd (false≢true y.0)
-  resume_by n d i (moving t) e y = absurd (false≢true y.0)
-  resume_by n d i (braking t) e y = absurd (false≢true y.0)
-  resume_by n d i (held c None) e y =
-      subst (λ (ph : Phase). G (with_phase (gone_on ph) (taken_over o.mode s.work))) (sym e) (goes_on n c e)
-  resume_by n d i (held c (Some target)) e y =
+  resume_by n t d i standing e y = absurd (false≢true y.0)
+  resume_by n k d i (moving t) e y = absurd (false≢true y.0)
+  resume_by n k d i (braking t) e y = absurd (false≢true y.0)
+  resume_by n t d i (held c None) e y =
+      subst (λ (ph : Phase). G (with_phase (gone_on ph) (taken_over o.mode s.work))) (sym e) (goes_on n t c e)
+  resume_by n t d i (held c (Some target)) e y =
       subst
       (λ (ph : Phase). G (set_off s.machine (aim_for d (course_rate d c) target m s.work.zero) (course_of ph) (taken_over o.mode s.work)))
-      (sym e) (resumes n d i c target e)
-  resume_by n d i (between c) e y = absurd (false≢true y.0)
+      (sym e) (resumes n t d i c target e)
+  resume_by n t d i (between c) e y = absurd (false≢true y.0)
 
   -- a mode of a program, by whether it is a take-over
   program_by : (b : Bool) (k : Pace) (d : RawData) → takes_over o.command ≡ b → mode_of o.mode ≡ Some (Program k)
@@ -118,7 +118,7 @@ module _ (o : Order) (p : Programs) (m : Meaning) (s : Status) (G : Work → Typ
       → Yes (cond b (resume_questions p m s.work.phase) (start_questions d o p))
       → G (carried_out o.mode (cond b (resume_plan d m s.work.phase s.work.zero) (Begin o.byte)) m s.machine s.work)
   program_by true k d t e a f i r y =
-      resume_by (names_not o (take_over_starts_not o.command t)) d i s.work.phase refl y
+      resume_by (names_not o (take_over_starts_not o.command t)) t d i s.work.phase refl y
   program_by false k d t e a f i r y =
       begins (on_if (runs_programs o.mode) (starts o.command) (program_mode o.mode k e) (else_starts o.command a f t)) d r y
 
@@ -138,7 +138,7 @@ module _ (o : Order) (p : Programs) (m : Meaning) (s : Status) (G : Work → Typ
   mode_by ClearOffset d e a f i y = rests _ refl (apart ClearOffset e refl) refl
   mode_by ToolTo d e a f i y = rests _ refl (apart ToolTo e refl) refl
   mode_by ClearTool d e a f i y = rests _ refl (apart ClearTool e refl) refl
-  mode_by ClearFault d e a f i y = clears (other_mode o (apart ClearFault e refl))
+  mode_by ClearFault d e a f i y = clears (other_mode o (apart ClearFault e refl)) (sym (number_of o.mode ClearFault e))
 
   -- without machine data only modes 4 and 17 are accepted
   bare_by : (mode : Mode) → mode_of o.mode ≡ Some mode → Yes (standing_questions mode o p m None s.work)
@@ -154,7 +154,7 @@ module _ (o : Order) (p : Programs) (m : Meaning) (s : Status) (G : Work → Typ
   bare_by ClearOffset e y = absurd (false≢true y.0)
   bare_by ToolTo e y = absurd (false≢true y.0)
   bare_by ClearTool e y = absurd (false≢true y.0)
-  bare_by ClearFault e y = clears (other_mode o (apart ClearFault e refl))
+  bare_by ClearFault e y = clears (other_mode o (apart ClearFault e refl)) (sym (number_of o.mode ClearFault e))
 
   standing_by : (x : Option RawData) (mode : Mode) → s.machine ≡ x → mode_of o.mode ≡ Some mode → admits mode o.command ≡ true
       → stops o.command ≡ false → Yes (standing_questions mode o p m x s.work)
@@ -166,7 +166,7 @@ module _ (o : Order) (p : Programs) (m : Meaning) (s : Status) (G : Work → Typ
   command_by : (b : Bool) (mode : Mode) → stops o.command ≡ b → mode_of o.mode ≡ Some mode → admits mode o.command ≡ true
       → Yes (cond b [] ((stands s.work.phase, NotStanding) ∷ standing_questions mode o p m s.machine s.work))
       → G (carried_out o.mode (cond b Halt (standing_plan mode o m s.machine s.work)) m s.machine s.work)
-  command_by true mode f e a y = halts (names_not o (stop_starts_not o.command f))
+  command_by true mode f e a y = halts (names_not o (stop_starts_not o.command f)) f
   command_by false mode f e a y = standing_by s.machine mode refl e a f y.1
 
   asked_by : (mode : Option Mode) → mode_of o.mode ≡ mode → Yes (order_questions mode o p m s)

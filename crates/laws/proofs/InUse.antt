@@ -72,10 +72,10 @@ module _ (P Q : Bool → Course → Type 0) (amid : (r : Bool) (c : Course) → 
       → Using s.work → Using (left o m s v).work
   order_using (Ok plan) o p m s e b u =
       let r = s.work.referenced in
-      accepted_by o p m s Using (λ n. stopped_using s.work.phase r u) (λ n. u)
+      accepted_by o p m s Using (λ n i. stopped_using s.work.phase r u) (λ n i. u)
       (λ v i j z. subst (InPhase (P v.referenced) (Q v.referenced)) (sym z) tt) (λ a i. tt) (λ n d i y. b d i y)
-      (λ n c i. subst (InPhase (P r) (Q r)) i u)
-      (λ n d i c target j. subst (Such (P r)) (ap course_of j) (such_in s.work.phase r u))
+      (λ n t c i. subst (InPhase (P r) (Q r)) i u)
+      (λ n t d i c target j. subst (Such (P r)) (ap course_of j) (such_in s.work.phase r u))
       plan e
   order_using (Err cause) o p m s e b u =
       refused_using (eqb (cause_number (order_fault o s.work.phase cause).cause) 11) s.work u

@@ -99,9 +99,9 @@ module _ (target : ℤ) (rate : ℕ) where
       let none : names_program o ≡ false → cond (names_program o) [] bs ≡ [] → bs ≡ [] =
       λ n i. ap (λ (b : Bool). cond b [] bs) (sym n) ∙ i in
       accepted_by o p m t (λ v. cond (names_program o) [] bs ≡ [] → Aimed t.machine v.phase)
-      (λ n i. stopped_aimed t.machine t.work.phase (h (none n i))) (λ n i. h (none n i))
-      (λ v j k s i. subst (Aimed t.machine) (sym s) tt) (λ a j i. tt) (λ n d j y i. tt) (λ n c j i. tt)
-      (λ n d j c x k i.
+      (λ n f i. stopped_aimed t.machine t.work.phase (h (none n i))) (λ n f i. h (none n i))
+      (λ v j k s i. subst (Aimed t.machine) (sym s) tt) (λ a j i. tt) (λ n d j y i. tt) (λ n f c j i. tt)
+      (λ n f d j c x k i.
       same_rate t.machine x (rate_of t.machine c) _ (Some c) (begun_rate t.machine d c x m t.work.zero j)
       (subst (Aimed t.machine) k (h (none n i))))
       plan e

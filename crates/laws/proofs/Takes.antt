@@ -132,13 +132,13 @@ module _ (p : Programs) (a : AxisState) (bs : List Block) (G : List Block → Wo
       let moved = λ (x : Aim). set_off a.status.machine x None (taken o.mode a.status.work) in
       let begun = with_phase (between (opening o.byte)) (taken o.mode a.status.work) in
       accepted_by o p a.drive a.status (λ v. G (cond (names_program o) [] bs) v)
-      (λ n. unnamed o (halted a.status.work) n (λ q f. (f, refl)) (stopped_in a.status.work.phase))
-      (λ n. unnamed o (with_fault None a.status.work) n (λ q f. (f, refl)) (same_in (course_of a.status.work.phase)))
+      (λ n i. unnamed o (halted a.status.work) n (λ q f. (f, refl)) (stopped_in a.status.work.phase))
+      (λ n i. unnamed o (with_fault None a.status.work) n (λ q f. (f, refl)) (same_in (course_of a.status.work.phase)))
       (λ v i j s. unnamed o v (other_mode o j) (apart o v i j) (subst (λ (ph : Phase). SameIn (course_of a.status.work.phase) (course_of ph)) (sym s) tt))
       (λ x j. unnamed o (moved x) (other_mode o j) (apart o (moved x) refl j) tt)
       (λ n d r y. subst (λ (b : Bool). G (cond b [] bs) begun) (sym n) (begins o.byte begun (begins_stored o p d y) refl refl))
-      (λ n c i. unnamed o _ n (λ q f. (goes_on c (ap course_of i) q, refl)) (ap course_of i))
-      (λ n d i c target j. unnamed o _ n (λ q f. (goes_on c (ap course_of j) q, refl)) (ap course_of j))
+      (λ n t c i. unnamed o _ n (λ q f. (goes_on c (ap course_of i) q, refl)) (ap course_of i))
+      (λ n t d i c target j. unnamed o _ n (λ q f. (goes_on c (ap course_of j) q, refl)) (ap course_of j))
       plan e
   order_takes (Err cause) o e =
       let f = order_fault o a.status.work.phase cause in
