@@ -26,4 +26,5 @@ pub mod Takes
 pub mod MNumber
 pub mod TakeOver
 pub mod Started
+pub mod Stopped
 pub mod Reckoning

@@ -4,3 +4,4 @@ pub mod Kept
 pub mod Laws
 pub mod Reckoned
 pub mod Started
+pub mod Stopped

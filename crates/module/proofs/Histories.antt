@@ -8,10 +8,12 @@ use Rattle.laws.specs.Acts as one
 use Rattle.laws.specs.Laws.{offset_after, tool_after, offset_given, tool_given}
 use Rattle.laws.specs.Reckoned as reckoned
 use Rattle.laws.specs.Started.{program_after, program_given}
+use Rattle.laws.specs.Stopped as stops
+use Rattle.laws.specs.Stopped.{stop_after, stop_given}
 use Rattle.module.specs.declared.call.Call.{Call}
 use Rattle.module.specs.State.{Machine}
 use Rattle.module.specs.Machine.{Reply, done_or, at_axis, step, reply, replies}
-use Rattle.module.specs.History.{Which, number, axis_at, act_on, PastAct, with_act, history, is_done, data_next, data_in, program_in, zero_next, zero_in, offset_in, tool_in, reference_next, reference_in}
+use Rattle.module.specs.History.{Which, number, axis_at, act_on, PastAct, with_act, history, is_done, data_next, data_in, program_in, zero_next, zero_in, offset_in, tool_in, reference_next, reference_in, is_eleven, stop_in}
 use Rattle.module.proofs.Axes.{left_by, step_at, reply_to, IsReply, reply_at, one_more, events}
 
 -- what an axis with this number is asked by an event, and answers
@@ -119,3 +121,18 @@ reference_same n (e ∷ es) a r =
     let next = reference_one n e.act (one.act_reply e.act e.programs a) r in
     reference_same n es b (reference_next e.act (reply_to n e.act e.programs a) r)
     ∙ ap (λ (k : Bool). reckoned.reference_given b es k) next
+
+-- a stop, by what an act is answered
+stop_one : (n : ℕ) (act : one.Act) (reply : Result (Unit {0}) AxisFault) (b : Bool)
+    → stop_after act (is_done (at_axis n (done_or reply))) (is_eleven (at_axis n (done_or reply))) b
+    ≡ stop_after act (is_ok reply) (stops.is_eleven reply) b
+stop_one n act (Ok u) b = refl
+stop_one n act (Err f) b = refl
+
+pub stop_same : (n : ℕ) (es : List one.Event) (a : AxisState) (b : Bool) → stop_in (history_of n a es) b ≡ stop_given a es b
+stop_same n [] a b = refl
+stop_same n (e ∷ es) a b =
+    let c = one.step e a in
+    let r = reply_to n e.act e.programs a in
+    stop_same n es c (stop_after e.act (is_done r) (is_eleven r) b)
+    ∙ ap (λ (k : Bool). stop_given c es k) (stop_one n e.act (one.act_reply e.act e.programs a) b)

@@ -8,18 +8,20 @@ use Rattle.laws.specs.Kept.{Kept}
 use Rattle.laws.specs.Laws as laws
 use Rattle.laws.specs.Reckoned as reckoned
 use Rattle.laws.specs.Started.{program_given}
+use Rattle.laws.specs.Stopped.{stop_given, is_cut}
 use Rattle.laws.proofs.Invariant.{invariant, no_pulse_refused}
 use Rattle.laws.proofs.Reckoning.{reference_law, drift_bound, limits}
 use Rattle.laws.proofs.Shifts.{shift}
 use Rattle.laws.proofs.Started.{started}
+use Rattle.laws.proofs.Stopped.{stopped_alone}
 use Rattle.module.specs.declared.call.Call.{Call}
 use Rattle.module.specs.State.{Machine}
 use Rattle.module.specs.Machine.{Reply, new_machine, after, replies}
-use Rattle.module.specs.History.{Which, first, second, third, number, axis_at, PastAct, history, data_in, program_in, zero_in, offset_in, tool_in, reference_in}
-use Rattle.module.specs.Promise.{DriftBound, ShiftLaw, ShiftByCalls, LimitsLaw, PulsesTaken, NoDrift, course, StartedLaw, ProgramLaw, Exact, Promise}
+use Rattle.module.specs.History.{Which, first, second, third, number, axis_at, PastAct, history, data_in, program_in, zero_in, offset_in, tool_in, reference_in, stop_in}
+use Rattle.module.specs.Promise.{DriftBound, ShiftLaw, ShiftByCalls, LimitsLaw, PulsesTaken, NoDrift, course, StartedLaw, StoppedLaw, ProgramLaw, Exact, Promise}
 use Rattle.module.proofs.Giving.{offset_given, tool_given}
 use Rattle.module.proofs.Axes.{events, after_at}
-use Rattle.module.proofs.Histories.{history_of, history_same, data_same, program_same, zero_same, offset_same, tool_same, reference_same}
+use Rattle.module.proofs.Histories.{history_of, history_same, data_same, program_same, zero_same, offset_same, tool_same, reference_same, stop_same}
 use Rattle.module.proofs.Standing.{stop_law}
 use Rattle.module.proofs.InUse.{programs_in_use}
 use Rattle.module.proofs.Blocks.{program_blocks}
@@ -76,7 +78,16 @@ module _ (w : Which) (m : Meaning) (sound : Sound m) (s : Machine) (q : axis_at 
       let i = ap (λ (a : AxisState). course_of a.status.work.phase) end in
       program_is ∙ started m (events w s calls) c (sym i ∙ e)
 
-  -- so without one there is none
+  -- what is cut short was stopped
+  stop_is : stop_in hs false ≡ stop_given (one.new_axis m) (events w s calls) false
+  stop_is = rw k (stop_same (number w) (events w s calls) (one.new_axis m) false)
+
+  stop_holds : StoppedLaw w s calls hs
+  stop_holds e =
+      let i = ap (λ (a : AxisState). is_cut a.status.work.phase) end in
+      stop_is ∙ stopped_alone m (events w s calls) (sym i ∙ e)
+
+  -- so without a start there is no program
   shift_by_calls : ShiftByCalls w s calls hs
   shift_by_calls e = shift_holds (none_started (course w s calls) (program_in hs None) start_holds e)
 
@@ -101,6 +112,7 @@ module _ (w : Which) (m : Meaning) (sound : Sound m) (s : Machine) (q : axis_at 
     started = start_holds;
     quiet = λ n. kept.shown n;
     referenced = λ e. sym referenced_is ∙ kept.program e;
+    stopped = stop_holds;
   }
 
   -- the axis does not drift

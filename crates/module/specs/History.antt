@@ -6,6 +6,7 @@ use Rattle.laws.specs.Acts as one
 use Rattle.laws.specs.Laws.{offset_after, tool_after}
 use Rattle.laws.specs.Reckoned.{data_after, zero_after}
 use Rattle.laws.specs.Started.{program_after}
+use Rattle.laws.specs.Stopped.{stop_after}
 use Rattle.module.specs.declared.call.Act.{Act}
 use Rattle.module.specs.declared.call.Act.TheVariants.{Enter, Delete, Order, Level, Tick, Observe}
 use Rattle.module.specs.declared.call.Call.{Call}
@@ -113,6 +114,16 @@ reference_next one.ticking reply r = cond (loses reply) false r
 abbrev pub reference_in : List PastAct → Bool → Bool
 reference_in [] r = r
 reference_in (h ∷ hs) r = reference_in hs (reference_next h.act h.reply r)
+
+-- whether the axis was stopped since it was last set off, by an accepted stop or by an order that was answered 11
+abbrev pub is_eleven : Reply → Bool
+is_eleven done = false
+is_eleven (shown o) = false
+is_eleven (refused f) = number_of f == 11
+
+abbrev pub stop_in : List PastAct → Bool → Bool
+stop_in [] b = b
+stop_in (h ∷ hs) b = stop_in hs (stop_after h.act (is_done h.reply) (is_eleven h.reply) b)
 
 -- how many ticks of an axis there are among the calls
 abbrev pub is_tick : Option one.Act → ℕ

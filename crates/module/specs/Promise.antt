@@ -10,6 +10,7 @@ use Rattle.states.specs.Observation.{Shown, observed}
 use Rattle.orders.specs.Modes.{stops}
 use Rattle.laws.specs.Kept.{InLimits}
 use Rattle.laws.specs.Laws.{TakenIn, step_of, stands_in, rest_of, RestsIn}
+use Rattle.laws.specs.Stopped.{is_cut}
 use Rattle.module.specs.declared.call.Act.TheVariants as act
 use Rattle.module.specs.declared.call.Call.{Call}
 use Rattle.module.specs.declared.call.Call.TheVariants.{OnAxis}
@@ -18,7 +19,7 @@ use Rattle.module.specs.declared.three.NotMade.{NotMade}
 use Rattle.module.specs.declared.runs.Ran.{Ran}
 use Rattle.module.specs.Machine.{Reply, done, new_machine, step, reply, after, replies}
 use Rattle.module.specs.Replies.{reply_by}
-use Rattle.module.specs.History.{Which, number, axis_at, PastAct, history, data_in, program_in, zero_in, offset_in, tool_in, reference_in, ticks_of}
+use Rattle.module.specs.History.{Which, number, axis_at, PastAct, history, data_in, program_in, zero_in, offset_in, tool_in, reference_in, stop_in, ticks_of}
 use Rattle.module.specs.Given.{accepted, sets_offset, adds_offset, sets_tool, adds_tool, LastAndAfter}
 use Rattle.module.specs.InUse.{ProgramsInUse}
 use Rattle.module.specs.Blocks.{taken_in, ProgramBlocks}
@@ -112,10 +113,15 @@ QuietLaw w s calls = ((shows w s calls).mode == 8 || (shows w s calls).mode == 9
 abbrev pub ReferencedLaw : Which → Machine → List Call → List PastAct → Type 0
 ReferencedLaw w s calls hs = is_some (course w s calls) ≡ true → reference_in hs false ≡ true
 
+-- a move is braked, and a program held before the target of its block, only after a stop
+abbrev pub StoppedLaw : Which → Machine → List Call → List PastAct → Type 0
+StoppedLaw w s calls hs = is_cut (axis_at w (after s calls)).status.work.phase ≡ true → stop_in hs false ≡ true
+
 pub record ProgramLaw (w : Which) (s : Machine) (calls : List Call) (hs : List PastAct) : Type 0 where
   pub started : StartedLaw w s calls hs
   pub quiet : QuietLaw w s calls
   pub referenced : ReferencedLaw w s calls hs
+  pub stopped : StoppedLaw w s calls hs
 
 -- THE PROMISE
 pub record Promise (x y z : Meaning) (calls : List Call) (answers : List Reply) (x′ y′ z′ : Meaning) : Type 0 where
