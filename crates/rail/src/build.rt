@@ -12,7 +12,7 @@ use std::fmt;
 /// Two layers over a stage, of no play where a script asks for none.
 pub type Layers = TakeUp<TakeUp<ClockStage>>;
 
-/// The drives of the three axes.
+/// The drives of the three axes, or the fault of the first that cannot be made.
 pub fn drives_of(builds: [Build; 3]) -> Result<Drives<Layers, Layers, Layers>, DriveFault>
     ensures { AllMade ⟦<Layers as Drive>⟧.meaning builds result }
 {

@@ -24,6 +24,7 @@ pub struct Rail<'r, 'a> {
 }
 
 impl<'r, 'a> Rail<'r, 'a> {
+    /// A script's calls go to this bench, and each answer is told in plain words too where it is to be explained.
     pub fn new(rt: &'r HostRuntime, bench: Bench, explain: bool) -> Rail<'r, 'a> {
         Rail {
             rt,
