@@ -1,5 +1,5 @@
 -- A refused call does what its number says, and nothing else.
-use Rattle.std.proofs.Common.{◌≡◌, ℕ, ℤ, Bool, true, false, cond, eqb, List, [], ◌∷◌, ◌++◌, is_some, Some, None, Ok, Err, Option, Result, refl, sym, ap, ◌∙◌, subst, inl, inr, arith}
+use Rattle.std.proofs.Common.{◌≡◌, ℕ, ℤ, Bool, true, false, cond, eqb, List, [], ◌∷◌, ◌++◌, is_some, Some, None, Ok, Err, Option, Result, refl, sym, ap, ◌∙◌, subst, arith}
 use Rattle.std.proofs.lemmas.Bool.{eqb-true, false≢true}
 use Rattle.units.specs.declared.Measure.{Measure}
 use Rattle.drives.specs.Meaning.{Meaning}
@@ -31,7 +31,8 @@ use Rattle.module.specs.Faults.{number_of}
 use Rattle.module.specs.State.{Machine}
 use Rattle.module.specs.History.{Which, first, second, third, number, axis_at, loses}
 use Rattle.module.specs.Machine.{done, refused, acted, answered, done_or, at_axis, at_store, in_use, if_named, with_programs, reply, step}
-use Rattle.module.specs.Refusals.{with_values, OrderRefused, OnMove, TickRefused, ActRefused, ActRefusedIf, without_entry, Refusals}
+use Rattle.laws.specs.Blocks.{move_of}
+use Rattle.module.specs.Refusals.{with_values, OrderRefused, TickRefused, ActRefused, ActRefusedIf, without_entry, Refusals}
 use Rattle.module.proofs.Axes.{reply_of}
 
 -- refusals are the same fault
@@ -65,7 +66,7 @@ trouble_loses : (t : Travel) (a : AxisState) (cause : Cause) (n : ℕ) → troub
 trouble_loses t a cause n e = grind arith
 
 -- a move that is stopped at once
-stopped_refused : (o : Option Cause) (t : Travel) (n : ℕ) (f : Fault) (a next : AxisState) → OnMove t a.status.work.phase
+stopped_refused : (o : Option Cause) (t : Travel) (n : ℕ) (f : Fault) (a next : AxisState) → move_of a.status.work.phase ≡ Some t
     → ((cause : Cause) → o ≡ Some cause → loses (refused (OfAxis n (fault_in t.course cause))) ≡ true)
     → at_axis n (done_or (trouble_reply o t)) ≡ refused f → TickRefused f a (unless_trouble o t a next)
 stopped_refused None t n f a next m h e = absurd (cc)
@@ -80,40 +81,40 @@ verdict_keeps : (o : Option RawData) (c : Course) (x : ℤ) (m : Meaning) (w : W
 verdict_keeps None c x m w cause n e = grind arith
 verdict_keeps (Some d) c x m w cause n e = grind arith
 
-begun_refused : (v : Result Aim Cause) (c : Course) (n : ℕ) (f : Fault) (a : AxisState)
+begun_refused : (v : Result Aim Cause) (c d : Course) (n : ℕ) (f : Fault) (a : AxisState) → a.status.work.phase ≡ between d
     → ((cause : Cause) → v ≡ Err cause → loses (refused (OfAxis n (fault_in (Some c) cause))) ≡ false)
     → at_axis n (done_or (begun_reply v c)) ≡ refused f
     → TickRefused f a (with_values (begun_with v a.status.machine c a.status.work) a)
-begun_refused (Ok aim) c n f a h e = absurd (cc)
-begun_refused (Err cause) c n f a h e =
+begun_refused (Ok aim) c d n f a q h e = absurd (cc)
+begun_refused (Err cause) c d n f a q h e =
     let b = with_values (begun_with (Err cause) a.status.machine c a.status.work) a in
     of_refusal (λ (g : Fault). TickRefused g a b) _ f e
-    record { at_once = λ z. absurd (false≢true (sym (h cause refl) ∙ z)); not_taken = λ z. refl }
+    record { at_once = λ z. absurd (false≢true (sym (h cause refl) ∙ z)); not_taken = λ z. (d, q, refl) }
 
-block_refused : (x : Option ℤ) (c : Course) (n : ℕ) (f : Fault) (a : AxisState)
+block_refused : (x : Option ℤ) (c d : Course) (n : ℕ) (f : Fault) (a : AxisState) → a.status.work.phase ≡ between d
     → at_axis n (done_or (block_reply x c a.drive a.status.machine a.status.work)) ≡ refused f
     → TickRefused f a (with_values (block_run x c a.drive a.status.machine a.status.work) a)
-block_refused None c n f a e = absurd (cc)
-block_refused (Some x) c n f a e =
+block_refused None c d n f a q e = absurd (cc)
+block_refused (Some x) c d n f a q e =
     let v = block_verdict a.status.machine c x a.drive a.status.work in
-    begun_refused v c n f a (λ cause. verdict_keeps a.status.machine c x a.drive a.status.work cause n) e
+    begun_refused v c d n f a q (λ cause. verdict_keeps a.status.machine c x a.drive a.status.work cause n) e
 
-next_refused : (b : Option Block) (c : Course) (n : ℕ) (f : Fault) (a : AxisState)
+next_refused : (b : Option Block) (c : Course) (n : ℕ) (f : Fault) (a : AxisState) → a.status.work.phase ≡ between c
     → at_axis n (done_or (next_reply b c a.drive a.status.machine a.status.work)) ≡ refused f
     → TickRefused f a (with_values (next_run b c a.drive a.status.machine a.status.work) a)
-next_refused None c n f a e = absurd (cc)
-next_refused (Some b) c n f a e = block_refused b.target (with_words b c) n f a e
+next_refused None c n f a q e = absurd (cc)
+next_refused (Some b) c n f a q e = block_refused b.target (with_words b c) c n f a q e
 
 -- by what the axis is doing
 tick_refused : (ph : Phase) (p : Programs) (n : ℕ) (f : Fault) (a : AxisState) → a.status.work.phase ≡ ph
     → at_axis n (done_or (tick_reply_at ph p a)) ≡ refused f → TickRefused f a (tick_at ph p a)
 tick_refused standing p n f a q e = absurd (cc)
 tick_refused (moving t) p n f a q e =
-    stopped_refused (trouble_of t a) t n f a _ (inl q) (λ cause. trouble_loses t a cause n) e
+    stopped_refused (trouble_of t a) t n f a _ (ap move_of q) (λ cause. trouble_loses t a cause n) e
 tick_refused (braking t) p n f a q e =
-    stopped_refused (trouble_of t a) t n f a _ (inr q) (λ cause. trouble_loses t a cause n) e
+    stopped_refused (trouble_of t a) t n f a _ (ap move_of q) (λ cause. trouble_loses t a cause n) e
 tick_refused (held c u) p n f a q e = absurd (cc)
-tick_refused (between c) p n f a q e = next_refused (next_block p c) c n f a e
+tick_refused (between c) p n f a q e = next_refused (next_block p c) c n f a q e
 
 -- AN ACT
 act_refused : (act : Act) (p : Programs) (n : ℕ) (f : Fault) (a : AxisState) → at_axis n (answered act p a) ≡ refused f

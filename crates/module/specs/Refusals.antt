@@ -1,9 +1,10 @@
 -- What a refusal does: what its number says, and nothing else.
-use Rattle.std.specs.Prelude.{◌≡◌, ◌⊎◌, ℕ, Bool, true, false, cond, Some, None, Option, ◌==◌}
+use Rattle.std.specs.Prelude.{◌≡◌, ℕ, Bool, true, false, cond, Some, None, Option, ◌==◌}
 use Rattle.states.specs.declared.fault.AxisFault.{AxisFault}
-use Rattle.states.specs.State.{Travel, Phase, standing, moving, braking, Work, AxisState, with_work, stopped}
+use Rattle.states.specs.State.{Course, Travel, Phase, standing, between, Work, AxisState, with_work, stopped}
 use Rattle.ticks.specs.Moving.{placed}
 use Rattle.ticks.specs.Ticks.{with_status}
+use Rattle.laws.specs.Blocks.{move_of}
 use Rattle.module.specs.declared.call.Act.{Act}
 use Rattle.module.specs.declared.call.Act.TheVariants.{Enter, Delete, Order, Level, Tick, Observe}
 use Rattle.module.specs.declared.call.Call.{Call}
@@ -36,21 +37,19 @@ OrderRefused f a b = b ≡ with_values (record a.status.work { fault = axis_faul
 
 -- A TICK: the refusal is its axis's fault, and the program is over
 
-abbrev pub OnMove : Travel → Phase → Type 0
-OnMove t p = (p ≡ moving t) ⊎ (p ≡ braking t)
-
 -- 23 and 24 stop a move where it is, and the reference is lost
 abbrev pub StoppedAtOnce : Fault → AxisState → AxisState → Type 0
-StoppedAtOnce f a b = (t : Travel) × OnMove t a.status.work.phase × (b ≡ with_values (record a.status.work {
+StoppedAtOnce f a b = (t : Travel) × (move_of a.status.work.phase ≡ Some t) × (b ≡ with_values (record a.status.work {
   fault = axis_fault f;
   coordinate = placed a.status.machine t a.drive.count a.status.work;
   referenced = false;
   phase = standing;
 }) a)
 
--- 18 to 21 are of a block, which is not taken
+-- 18 to 21 are of the block that comes between two blocks; it is not taken
 abbrev pub BlockRefused : Fault → AxisState → AxisState → Type 0
-BlockRefused f a b = b ≡ with_values (record a.status.work { fault = axis_fault f; phase = standing }) a
+BlockRefused f a b = (c : Course) × (a.status.work.phase ≡ between c)
+    × (b ≡ with_values (record a.status.work { fault = axis_fault f; phase = standing }) a)
 
 pub record TickRefused (f : Fault) (a b : AxisState) : Type 0 where
   pub at_once : loses (refused f) ≡ true → StoppedAtOnce f a b
