@@ -7,19 +7,33 @@ A quotation is a fenced block whose first line names its file below crates/, as
 
     ```antt module/specs/Promise.antt
 
-Each paragraph of it has to stand in that file, word for word, but for line breaks and the blanks beside them. A fenced
-block of antt or rust without a file is an error too. The exit status is 1 where something differs.
+Each paragraph of it has to stand in that file, word for word and whole, but for line breaks and the blanks beside them: of
+antt a paragraph of the file without the comments above it, of rust the head of a function up to its body. A fenced block of
+antt or rust without a file is an error too. The exit status is 1 where something differs.
 """
 import re
 import sys
 from pathlib import Path
 
 FENCE = re.compile(r"^```(\w*) ?(\S*)\n(.*?)^```$", re.M | re.S)
+COMMENT = re.compile(r"^--.*\n", re.M)
 
 
 def words(text):
     """The text with every run of blanks and line breaks as one blank."""
     return " ".join(text.split())
+
+
+def paragraphs(text):
+    """The paragraphs of a text, each as its words."""
+    return [words(paragraph) for paragraph in re.split(r"\n\s*\n", text.strip("\n"))]
+
+
+def stands(kind, source, paragraph):
+    """Whether a quoted paragraph stands whole in the text of a file."""
+    if kind == "antt":
+        return paragraph in paragraphs(COMMENT.sub("", source))
+    return paragraph + " {" in words(source)
 
 
 def differences(page):
@@ -35,11 +49,10 @@ def differences(page):
         if not name or not source.is_file():
             wrong.append(f"{page}:{line}: no such file: {name or 'none named'}")
             continue
-        stands = words(source.read_text())
-        for paragraph in re.split(r"\n\s*\n", body.strip("\n")):
+        for paragraph in paragraphs(body):
             compared += 1
-            if words(paragraph) not in stands:
-                wrong.append(f"{page}:{line}: not in {source}: {words(paragraph)[:100]}")
+            if not stands(kind, source.read_text(), paragraph):
+                wrong.append(f"{page}:{line}: not in {source}: {paragraph[:100]}")
     return wrong, compared
 
 
