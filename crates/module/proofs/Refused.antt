@@ -13,13 +13,15 @@ use Rattle.store.specs.Entry as entry
 use Rattle.store.specs.Closing.{closable}
 use Rattle.states.specs.declared.aim.Aim.{Aim}
 use Rattle.states.specs.declared.fault.Cause.{Cause}
+use Rattle.states.specs.declared.fault.AxisFault.{AxisFault}
+use Rattle.states.specs.Faults.{cause_number}
 use Rattle.states.specs.declared.order.Order.{Order as OrderGiven}
 use Rattle.states.specs.Entry.{enter_no, delete_no, call_reply, unless}
-use Rattle.states.specs.Effects.{fault_in}
+use Rattle.states.specs.Effects.{fault_at, fault_in}
 use Rattle.states.specs.State.{Course, Travel, Phase, standing, moving, braking, held, between, Work, Status, AxisState}
 use Rattle.orders.specs.declared.plan.Plan.{Plan}
 use Rattle.orders.specs.Questions.{verdict}
-use Rattle.orders.specs.Orders.{answered as order_answered, left}
+use Rattle.orders.specs.Orders.{order_fault, answered as order_answered, left}
 use Rattle.ticks.specs.Blocks.{with_words, block_verdict, begun_with, begun_reply, block_run, block_reply, next_run, next_reply, next_block}
 use Rattle.ticks.specs.Ticks.{with_status, trouble_of, trouble_reply, unless_trouble, tick_at, reply_at as tick_reply_at}
 use Rattle.module.specs.declared.call.Act.{Act}
@@ -29,10 +31,11 @@ use Rattle.module.specs.declared.fault.Fault.{Fault}
 use Rattle.module.specs.declared.fault.Fault.TheVariants.{OfAxis, OfStore, InUse}
 use Rattle.module.specs.Faults.{number_of}
 use Rattle.module.specs.State.{Machine}
-use Rattle.module.specs.History.{Which, first, second, third, number, axis_at, loses}
+use Rattle.module.specs.History.{Which, first, second, third, number, axis_at}
 use Rattle.module.specs.Machine.{done, refused, acted, answered, done_or, at_axis, at_store, in_use, if_named, with_programs, reply, step}
+use Rattle.laws.specs.Reckoned.{loses}
 use Rattle.laws.specs.Blocks.{move_of}
-use Rattle.module.specs.Refusals.{with_values, OrderRefused, TickRefused, ActRefused, ActRefusedIf, without_entry, Refusals}
+use Rattle.module.specs.Refusals.{with_values, OrderRefused, of_tick, TickRefused, RefusedAt, without_entry, Refusals}
 use Rattle.module.proofs.Axes.{reply_of}
 
 -- refusals are the same fault
@@ -43,82 +46,111 @@ same_fault f g e = cc
 of_refusal : (P : Fault → Type 0) (f g : Fault) → refused f ≡ refused g → P f → P g
 of_refusal P f g e h = subst P (same_fault f g e) h
 
+-- the refusal is the fault of the axis that is named
+told : (n : ℕ) (g : AxisFault) (f : Fault) → refused (OfAxis n g) ≡ refused f → f ≡ OfAxis n g
+told n g f e = sym (same_fault (OfAxis n g) f e)
+
 -- MACHINE DATA
 unless_refused : (o : Option Cause) (n : ℕ) (f : Fault) (a : AxisState) (next : Status)
-    → at_axis n (done_or (call_reply o)) ≡ refused f → with_status (unless o a.status next) a ≡ a
+    → at_axis n (done_or (call_reply o)) ≡ refused f
+    → (g : AxisFault) × (f ≡ OfAxis n g) × (with_status (unless o a.status next) a ≡ a)
 unless_refused None n f a next e = absurd (cc)
-unless_refused (Some cause) n f a next e = refl
+unless_refused (Some cause) n f a next e = (fault_at 0 0 cause, told n (fault_at 0 0 cause) f e, refl)
 
 -- AN ORDER
 order_refused : (v : Result Plan Cause) (o : OrderGiven) (n : ℕ) (f : Fault) (a : AxisState)
     → at_axis n (done_or (order_answered o a.status.work.phase v)) ≡ refused f
-    → OrderRefused f a (with_status (left o a.drive a.status v) a)
+    → (g : AxisFault) × (f ≡ OfAxis n g) × OrderRefused g a (with_status (left o a.drive a.status v) a)
 order_refused (Ok plan) o n f a e = absurd (cc)
 order_refused (Err cause) o n f a e =
-    let b = with_status (left o a.drive a.status (Err cause)) a in
-    of_refusal (λ (g : Fault). OrderRefused g a b) _ f e refl
+    let g = order_fault o a.status.work.phase cause in
+    (g, told n g f e, refl)
 
 -- A TICK
 
+-- what a refused tick of an axis is told and leaves
+abbrev RefusedTick : ℕ → Fault → AxisState → AxisState → Type 0
+RefusedTick n f a b = (g : AxisFault) × (f ≡ OfAxis n g) × TickRefused g a b
+
+-- a fault has the number of its cause
+its_number : (o : Option Course) (cause : Cause) → cause_number (fault_in o cause).cause ≡ cause_number cause
+its_number None cause = refl
+its_number (Some c) cause = refl
+
 -- trouble has the number 24 or 23
-trouble_loses : (t : Travel) (a : AxisState) (cause : Cause) (n : ℕ) → trouble_of t a ≡ Some cause
-    → loses (refused (OfAxis n (fault_in t.course cause))) ≡ true
-trouble_loses t a cause n e = grind arith
+trouble_number : (t : Travel) (a : AxisState) (cause : Cause) → trouble_of t a ≡ Some cause
+    → (of_tick (cause_number cause) ≡ true) × (loses (Err (fault_in t.course cause)) ≡ true)
+trouble_number t a cause e = (grind arith, grind arith)
 
 -- a move that is stopped at once
 stopped_refused : (o : Option Cause) (t : Travel) (n : ℕ) (f : Fault) (a next : AxisState) → move_of a.status.work.phase ≡ Some t
-    → ((cause : Cause) → o ≡ Some cause → loses (refused (OfAxis n (fault_in t.course cause))) ≡ true)
-    → at_axis n (done_or (trouble_reply o t)) ≡ refused f → TickRefused f a (unless_trouble o t a next)
+    → ((cause : Cause) → o ≡ Some cause
+    → (of_tick (cause_number cause) ≡ true) × (loses (Err (fault_in t.course cause)) ≡ true))
+    → at_axis n (done_or (trouble_reply o t)) ≡ refused f → RefusedTick n f a (unless_trouble o t a next)
 stopped_refused None t n f a next m h e = absurd (cc)
 stopped_refused (Some cause) t n f a next m h e =
-    let b = unless_trouble (Some cause) t a next in
-    of_refusal (λ (g : Fault). TickRefused g a b) _ f e
-    record { at_once = λ z. (t, m, refl); not_taken = λ z. absurd (false≢true (sym z ∙ h cause refl)) }
+    let g = fault_in t.course cause in
+    let k = h cause refl in (
+      g,
+      told n g f e,
+      record {
+        number = λ z. its_number t.course cause ∙ k.0;
+        at_once = λ z. (t, m, refl);
+        not_taken = λ z. absurd (false≢true (sym z ∙ k.1));
+      },
+    )
 
--- a block is not refused by 23 or 24
-verdict_keeps : (o : Option RawData) (c : Course) (x : ℤ) (m : Meaning) (w : Work) (cause : Cause) (n : ℕ)
-    → block_verdict o c x m w ≡ Err cause → loses (refused (OfAxis n (fault_in (Some c) cause))) ≡ false
-verdict_keeps None c x m w cause n e = grind arith
-verdict_keeps (Some d) c x m w cause n e = grind arith
+-- a block is refused by 18 to 21
+verdict_number : (o : Option RawData) (c : Course) (x : ℤ) (m : Meaning) (w : Work) (cause : Cause)
+    → block_verdict o c x m w ≡ Err cause
+    → (is_some o ≡ true → of_tick (cause_number cause) ≡ true) × (loses (Err (fault_in (Some c) cause)) ≡ false)
+verdict_number None c x m w cause e = (λ z. cc, grind arith)
+verdict_number (Some d) c x m w cause e = (λ z. grind arith, grind arith)
 
 begun_refused : (v : Result Aim Cause) (c d : Course) (n : ℕ) (f : Fault) (a : AxisState) → a.status.work.phase ≡ between d
-    → ((cause : Cause) → v ≡ Err cause → loses (refused (OfAxis n (fault_in (Some c) cause))) ≡ false)
+    → ((cause : Cause) → v ≡ Err cause
+    → (is_some a.status.machine ≡ true → of_tick (cause_number cause) ≡ true) × (loses (Err (fault_in (Some c) cause)) ≡ false))
     → at_axis n (done_or (begun_reply v c)) ≡ refused f
-    → TickRefused f a (with_values (begun_with v a.status.machine c a.status.work) a)
+    → RefusedTick n f a (with_values (begun_with v a.status.machine c a.status.work) a)
 begun_refused (Ok aim) c d n f a q h e = absurd (cc)
 begun_refused (Err cause) c d n f a q h e =
-    let b = with_values (begun_with (Err cause) a.status.machine c a.status.work) a in
-    of_refusal (λ (g : Fault). TickRefused g a b) _ f e
-    record { at_once = λ z. absurd (false≢true (sym (h cause refl) ∙ z)); not_taken = λ z. (d, q, refl) }
+    let g = fault_in (Some c) cause in
+    let k = h cause refl in (
+      g,
+      told n g f e,
+      record {
+        number = k.0;
+        at_once = λ z. absurd (false≢true (sym k.1 ∙ z));
+        not_taken = λ z. (d, q, refl);
+      },
+    )
 
 block_refused : (x : Option ℤ) (c d : Course) (n : ℕ) (f : Fault) (a : AxisState) → a.status.work.phase ≡ between d
     → at_axis n (done_or (block_reply x c a.drive a.status.machine a.status.work)) ≡ refused f
-    → TickRefused f a (with_values (block_run x c a.drive a.status.machine a.status.work) a)
+    → RefusedTick n f a (with_values (block_run x c a.drive a.status.machine a.status.work) a)
 block_refused None c d n f a q e = absurd (cc)
 block_refused (Some x) c d n f a q e =
     let v = block_verdict a.status.machine c x a.drive a.status.work in
-    begun_refused v c d n f a q (λ cause. verdict_keeps a.status.machine c x a.drive a.status.work cause n) e
+    begun_refused v c d n f a q (verdict_number a.status.machine c x a.drive a.status.work) e
 
 next_refused : (b : Option Block) (c : Course) (n : ℕ) (f : Fault) (a : AxisState) → a.status.work.phase ≡ between c
     → at_axis n (done_or (next_reply b c a.drive a.status.machine a.status.work)) ≡ refused f
-    → TickRefused f a (with_values (next_run b c a.drive a.status.machine a.status.work) a)
+    → RefusedTick n f a (with_values (next_run b c a.drive a.status.machine a.status.work) a)
 next_refused None c n f a q e = absurd (cc)
 next_refused (Some b) c n f a q e = block_refused b.target (with_words b c) c n f a q e
 
 -- by what the axis is doing
 tick_refused : (ph : Phase) (p : Programs) (n : ℕ) (f : Fault) (a : AxisState) → a.status.work.phase ≡ ph
-    → at_axis n (done_or (tick_reply_at ph p a)) ≡ refused f → TickRefused f a (tick_at ph p a)
+    → at_axis n (done_or (tick_reply_at ph p a)) ≡ refused f → RefusedTick n f a (tick_at ph p a)
 tick_refused standing p n f a q e = absurd (cc)
-tick_refused (moving t) p n f a q e =
-    stopped_refused (trouble_of t a) t n f a _ (ap move_of q) (λ cause. trouble_loses t a cause n) e
-tick_refused (braking t) p n f a q e =
-    stopped_refused (trouble_of t a) t n f a _ (ap move_of q) (λ cause. trouble_loses t a cause n) e
+tick_refused (moving t) p n f a q e = stopped_refused (trouble_of t a) t n f a _ (ap move_of q) (trouble_number t a) e
+tick_refused (braking t) p n f a q e = stopped_refused (trouble_of t a) t n f a _ (ap move_of q) (trouble_number t a) e
 tick_refused (held c u) p n f a q e = absurd (cc)
 tick_refused (between c) p n f a q e = next_refused (next_block p c) c n f a q e
 
 -- AN ACT
 act_refused : (act : Act) (p : Programs) (n : ℕ) (f : Fault) (a : AxisState) → at_axis n (answered act p a) ≡ refused f
-    → ActRefused act f a (acted act p a)
+    → RefusedAt true n act f a (acted act p a)
 act_refused (Enter raw) p n f a e = unless_refused (enter_no raw a.status) n f a _ e
 act_refused Delete p n f a e = unless_refused (delete_no a.status) n f a _ e
 act_refused (Order o) p n f a e = order_refused (verdict o p a.drive a.status) o n f a e
@@ -127,20 +159,21 @@ act_refused Tick p n f a e = tick_refused a.status.work.phase p n f a refl e
 act_refused Observe p n f a e = absurd (cc)
 
 -- an axis that is named or not
-named_refused : (b : Bool) (act : Act) (p : Programs) (n : ℕ) (f : Fault) (a : AxisState)
-    → (b ≡ true → at_axis n (answered act p a) ≡ refused f) → ActRefusedIf b act f a (if_named b act p a)
-named_refused true act p n f a e = act_refused act p n f a (e refl)
-named_refused false act p n f a e = refl
+named_refused : (b : Bool) (w : Which) (axis : ℕ) (act : Act) (s : Machine) (f : Fault) → eqb axis (number w) ≡ b
+    → reply (OnAxis axis act) s ≡ refused f
+    → RefusedAt b axis act f (axis_at w s) (if_named b act s.programs (axis_at w s))
+named_refused true w axis act s f q e =
+    let i = eqb-true axis (number w) q in
+    let r = ap (λ (k : ℕ). at_axis k (answered act s.programs (axis_at w s))) i ∙ sym (reply_of w axis act s i) ∙ e in
+    act_refused act s.programs axis f (axis_at w s) r
+named_refused false w axis act s f q e = refl
 
 -- each of the three
 each_refused : (w : Which) (axis : ℕ) (act : Act) (s : Machine) (f : Fault) → reply (OnAxis axis act) s ≡ refused f
-    → ActRefusedIf (eqb axis (number w)) act f (axis_at w s) (axis_at w (step (OnAxis axis act) s))
-each_refused first axis act s f e =
-    named_refused (eqb axis 1) act s.programs 1 f s.first (λ q. sym (reply_of first axis act s (eqb-true axis 1 q)) ∙ e)
-each_refused second axis act s f e =
-    named_refused (eqb axis 2) act s.programs 2 f s.second (λ q. sym (reply_of second axis act s (eqb-true axis 2 q)) ∙ e)
-each_refused third axis act s f e =
-    named_refused (eqb axis 3) act s.programs 3 f s.third (λ q. sym (reply_of third axis act s (eqb-true axis 3 q)) ∙ e)
+    → RefusedAt (eqb axis (number w)) axis act f (axis_at w s) (axis_at w (step (OnAxis axis act) s))
+each_refused first axis act s f e = named_refused (eqb axis 1) first axis act s f refl e
+each_refused second axis act s f e = named_refused (eqb axis 2) second axis act s f refl e
+each_refused third axis act s f e = named_refused (eqb axis 3) third axis act s f refl e
 
 -- THE STORE
 

@@ -1,62 +1,60 @@
 -- What a refusal does: what its number says, and nothing else.
-use Rattle.std.specs.Prelude.{◌≡◌, ℕ, Bool, true, false, cond, Some, None, Option, ◌==◌}
+use Rattle.std.specs.Prelude.{◌≡◌, ℕ, Bool, true, false, cond, ◌&&◌, ◌||◌, is_some, Some, None, Err, ◌==◌, nat_le}
 use Rattle.states.specs.declared.fault.AxisFault.{AxisFault}
-use Rattle.states.specs.State.{Course, Travel, Phase, standing, between, Work, AxisState, with_work, stopped}
+use Rattle.states.specs.Faults.{cause_number}
+use Rattle.states.specs.State.{Course, Travel, standing, between, Work, AxisState, with_work}
+use Rattle.orders.specs.Effects.{stopped_by}
 use Rattle.ticks.specs.Moving.{placed}
 use Rattle.ticks.specs.Ticks.{with_status}
+use Rattle.laws.specs.Reckoned.{loses}
 use Rattle.laws.specs.Blocks.{move_of}
 use Rattle.module.specs.declared.call.Act.{Act}
 use Rattle.module.specs.declared.call.Act.TheVariants.{Enter, Delete, Order, Level, Tick, Observe}
 use Rattle.module.specs.declared.call.Call.{Call}
 use Rattle.module.specs.declared.call.Call.TheVariants.{OnAxis, Open, Add, Close, Abandon, DeleteProgram}
 use Rattle.module.specs.declared.fault.Fault.{Fault}
-use Rattle.module.specs.declared.fault.Fault.TheVariants.{NoSuchAxis, OfAxis, OfStore, InUse}
+use Rattle.module.specs.declared.fault.Fault.TheVariants.{OfAxis}
 use Rattle.module.specs.Faults.{number_of}
 use Rattle.module.specs.State.{Machine}
-use Rattle.module.specs.History.{Which, number, axis_at, loses}
+use Rattle.module.specs.History.{Which, number, axis_at}
 use Rattle.module.specs.Machine.{refused, reply, with_programs, step}
-
--- the fault that an axis keeps
-abbrev pub axis_fault : Fault → Option AxisFault
-axis_fault (NoSuchAxis axis program) = None
-axis_fault (OfAxis axis fault) = Some fault
-axis_fault (OfStore fault) = None
-axis_fault (InUse program) = None
 
 -- an axis with other working values
 abbrev pub with_values : Work → AxisState → AxisState
 with_values w a = with_status (with_work w a.status) a
 
 -- AN ORDER: the refusal is its axis's fault, and 11 also acts as a stop
-
-abbrev pub stopped_by : Fault → Phase → Phase
-stopped_by f p = cond (number_of f == 11) (stopped p) p
-
-abbrev pub OrderRefused : Fault → AxisState → AxisState → Type 0
-OrderRefused f a b = b ≡ with_values (record a.status.work { fault = axis_fault f; phase = stopped_by f a.status.work.phase }) a
+abbrev pub OrderRefused : AxisFault → AxisState → AxisState → Type 0
+OrderRefused f a b = b ≡ with_values (record a.status.work { fault = Some f; phase = stopped_by f a.status.work.phase }) a
 
 -- A TICK: the refusal is its axis's fault, and the program is over
 
 -- 23 and 24 stop a move where it is, and the reference is lost
-abbrev pub StoppedAtOnce : Fault → AxisState → AxisState → Type 0
+abbrev pub StoppedAtOnce : AxisFault → AxisState → AxisState → Type 0
 StoppedAtOnce f a b = (t : Travel) × (move_of a.status.work.phase ≡ Some t) × (b ≡ with_values (record a.status.work {
-  fault = axis_fault f;
+  fault = Some f;
   coordinate = placed a.status.machine t a.drive.count a.status.work;
   referenced = false;
   phase = standing;
 }) a)
 
--- 18 to 21 are of the block that comes between two blocks; it is not taken
-abbrev pub BlockRefused : Fault → AxisState → AxisState → Type 0
+-- the others are of the block that comes between two blocks; it is not taken
+abbrev pub BlockRefused : AxisFault → AxisState → AxisState → Type 0
 BlockRefused f a b = (c : Course) × (a.status.work.phase ≡ between c)
-    × (b ≡ with_values (record a.status.work { fault = axis_fault f; phase = standing }) a)
+    × (b ≡ with_values (record a.status.work { fault = Some f; phase = standing }) a)
 
-pub record TickRefused (f : Fault) (a b : AxisState) : Type 0 where
-  pub at_once : loses (refused f) ≡ true → StoppedAtOnce f a b
-  pub not_taken : loses (refused f) ≡ false → BlockRefused f a b
+-- 18 to 21, 23 and 24
+abbrev pub of_tick : ℕ → Bool
+of_tick n = (nat_le 18 n && nat_le n 21) || (n == 23 || n == 24)
+
+-- an axis runs a program, and moves, with machine data alone
+pub record TickRefused (f : AxisFault) (a b : AxisState) : Type 0 where
+  pub number : is_some a.status.machine ≡ true → of_tick (cause_number f.cause) ≡ true
+  pub at_once : loses (Err f) ≡ true → StoppedAtOnce f a b
+  pub not_taken : loses (Err f) ≡ false → BlockRefused f a b
 
 -- AN ACT of an axis: the refusals of all others change nothing
-abbrev pub ActRefused : Act → Fault → AxisState → AxisState → Type 0
+abbrev pub ActRefused : Act → AxisFault → AxisState → AxisState → Type 0
 ActRefused (Enter raw) f a b = b ≡ a
 ActRefused Delete f a b = b ≡ a
 ActRefused (Order o) f a b = OrderRefused f a b
@@ -64,13 +62,13 @@ ActRefused (Level l) f a b = b ≡ a
 ActRefused Tick f a b = TickRefused f a b
 ActRefused Observe f a b = b ≡ a
 
-abbrev pub ActRefusedIf : Bool → Act → Fault → AxisState → AxisState → Type 0
-ActRefusedIf true act f a b = ActRefused act f a b
-ActRefusedIf false act f a b = b ≡ a
+-- of the three axes the one that the call names alone, and the refusal is its fault
+abbrev pub RefusedAt : Bool → ℕ → Act → Fault → AxisState → AxisState → Type 0
+RefusedAt true axis act f a b = (g : AxisFault) × (f ≡ OfAxis axis g) × ActRefused act g a b
+RefusedAt false axis act f a b = b ≡ a
 
--- of the three axes the one that the call names alone
 pub record OnAxisRefused (axis : ℕ) (act : Act) (f : Fault) (s t : Machine) : Type 0 where
-  pub axes : (w : Which) → ActRefusedIf (axis == number w) act f (axis_at w s) (axis_at w t)
+  pub axes : (w : Which) → RefusedAt (axis == number w) axis act f (axis_at w s) (axis_at w t)
   pub programs : t.programs ≡ s.programs
 
 -- A CALL: 35 ends the entry too
