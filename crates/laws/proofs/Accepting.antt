@@ -26,7 +26,7 @@ use Rattle.orders.specs.Modes.{starts, stops, takes_over, admits}
 use Rattle.orders.specs.Questions.{start_questions, resume_questions, resume_plan, mode_plan, bare_plan, standing_plan, standing_questions, order_questions, plan_for, verdict}
 use Rattle.orders.specs.Effects.{taken, taken_over, zeroed, gone_on, halted, carried_out}
 use Rattle.orders.specs.Orders.{names_program}
-use Rattle.laws.specs.Blocks.{runs_programs}
+use Rattle.orders.specs.Modes.{runs_programs}
 use Rattle.laws.proofs.Asked.{Yes, accepted}
 use Rattle.laws.proofs.Numbers.{number_of, program_mode}
 

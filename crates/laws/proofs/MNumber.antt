@@ -5,7 +5,8 @@ use Rattle.reader.specs.declared.block.Block.{Block}
 use Rattle.states.specs.State.{Work, AxisState}
 use Rattle.laws.specs.Acts.{Event, step, new_axis, after}
 use Rattle.laws.specs.Kept.{Kept}
-use Rattle.laws.specs.Blocks.{taken_next, blocks_taken, last_m, runs_programs, MNumber}
+use Rattle.orders.specs.Modes.{runs_programs}
+use Rattle.laws.specs.Blocks.{taken_next, blocks_taken, last_m, MNumber}
 use Rattle.laws.proofs.Invariant.{act_keeps, run_keeps, new_keeps}
 use Rattle.laws.proofs.Takes.{act_takes}
 

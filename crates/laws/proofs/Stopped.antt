@@ -21,15 +21,15 @@ use Rattle.ticks.specs.Blocks.{with_words, block_verdict, begun_with, block_run,
 use Rattle.ticks.specs.Moving.{after_move, ran, sent_on}
 use Rattle.ticks.specs.Ticks.{trouble_of, unless_trouble, run_step, tick_at}
 use Rattle.laws.specs.Acts.{Act, entering, deleting, ordering, levelling, ticking, Event, act_step, act_reply, step, new_axis, after}
-use Rattle.laws.specs.Stopped.{stop_after, is_eleven, stop_next, stop_given, is_cut, Stopped}
+use Rattle.laws.specs.Stopped.{stop_after, is_eleven, stop_next, stop_given, brakes_or_unfinished, Stopped}
 use Rattle.laws.proofs.Accepting.{accepted_by}
 
 -- a phase that a stop has cut, if there was one
 abbrev Cut : Bool → Phase → Type 0
-Cut b ph = is_cut ph ≡ true → b ≡ true
+Cut b ph = brakes_or_unfinished ph ≡ true → b ≡ true
 
 -- one that is not cut
-uncut : (b : Bool) (ph : Phase) → is_cut ph ≡ false → Cut b ph
+uncut : (b : Bool) (ph : Phase) → brakes_or_unfinished ph ≡ false → Cut b ph
 uncut b ph f e = absurd (false≢true (sym f ∙ e))
 
 -- AN ORDER
@@ -59,7 +59,7 @@ order_cut : (v : Result Plan Cause) (o : Order) (p : Programs) (m : Meaning) (s 
 order_cut (Ok plan) o p m s b e u =
     let c = next o b in
     accepted_by o p m s (λ v. Cut c v.phase) (λ n f. halted_cut o b (stopped s.work.phase) f)
-    (λ n i. cleared_cut (stops o.command) b o.mode s.work.phase i u) (λ v i j z. uncut c v.phase (ap is_cut z))
+    (λ n i. cleared_cut (stops o.command) b o.mode s.work.phase i u) (λ v i j z. uncut c v.phase (ap brakes_or_unfinished z))
     (λ a i f. absurd (false≢true f)) (λ n d r y f. absurd (false≢true f)) (λ n t k i f. absurd (false≢true f))
     (λ n t d i k target j f. absurd (false≢true f))
     plan e
@@ -69,34 +69,34 @@ order_cut (Err cause) o p m s b e u =
 -- A TICK
 
 -- a block that is done
-done_uncut : (ends holds : Bool) (c : Course) → is_cut (cond ends standing (cond holds (held c None) (between c))) ≡ false
+done_uncut : (ends holds : Bool) (c : Course) → brakes_or_unfinished (cond ends standing (cond holds (held c None) (between c))) ≡ false
 done_uncut true holds c = refl
 done_uncut false true c = refl
 done_uncut false false c = refl
 
-its_uncut : (o : Option Course) (mode : ℕ) → is_cut (after_move mode o) ≡ false
+its_uncut : (o : Option Course) (mode : ℕ) → brakes_or_unfinished (after_move mode o) ≡ false
 its_uncut None mode = refl
 its_uncut (Some c) mode = done_uncut _ _ c
 
-ran_uncut : (k : Bool) (g : Going) (t : Travel) (n : ℤ) (o : Option RawData) (w : Work) → is_cut (ran k g t n o w).phase ≡ false
+ran_uncut : (k : Bool) (g : Going) (t : Travel) (n : ℤ) (o : Option RawData) (w : Work) → brakes_or_unfinished (ran k g t n o w).phase ≡ false
 ran_uncut true g t n o w = its_uncut t.course w.mode
 ran_uncut false g t n o w = refl
 
-begun_uncut : (v : Result Aim Cause) (o : Option RawData) (c : Course) (w : Work) → is_cut (begun_with v o c w).phase ≡ false
+begun_uncut : (v : Result Aim Cause) (o : Option RawData) (c : Course) (w : Work) → brakes_or_unfinished (begun_with v o c w).phase ≡ false
 begun_uncut (Ok aim) o c w = refl
 begun_uncut (Err cause) o c w = refl
 
-block_uncut : (x : Option ℤ) (c : Course) (m : Meaning) (o : Option RawData) (w : Work) → is_cut (block_run x c m o w).phase ≡ false
+block_uncut : (x : Option ℤ) (c : Course) (m : Meaning) (o : Option RawData) (w : Work) → brakes_or_unfinished (block_run x c m o w).phase ≡ false
 block_uncut None c m o w = done_uncut _ _ c
 block_uncut (Some x) c m o w = begun_uncut (block_verdict o c x m w) o c w
 
-next_uncut : (b : Option Block) (c : Course) (m : Meaning) (o : Option RawData) (w : Work) → is_cut (next_run b c m o w).phase ≡ false
+next_uncut : (b : Option Block) (c : Course) (m : Meaning) (o : Option RawData) (w : Work) → brakes_or_unfinished (next_run b c m o w).phase ≡ false
 next_uncut None c m o w = refl
 next_uncut (Some b) c m o w = block_uncut b.target (with_words b c) m o w
 
 -- trouble ends a move
-trouble_uncut : (o : Option Cause) (t : Travel) (a b : AxisState) → is_cut b.status.work.phase ≡ false
-    → is_cut (unless_trouble o t a b).status.work.phase ≡ false
+trouble_uncut : (o : Option Cause) (t : Travel) (a b : AxisState) → brakes_or_unfinished b.status.work.phase ≡ false
+    → brakes_or_unfinished (unless_trouble o t a b).status.work.phase ≡ false
 trouble_uncut None t a b f = f
 trouble_uncut (Some cause) t a b f = refl
 

@@ -24,7 +24,8 @@ use Rattle.ticks.specs.Moving.{after_move, stopped_short, ran, slowed, sent_on}
 use Rattle.ticks.specs.Ticks.{trouble_of, unless_trouble, trouble_reply, run_step, slow_step, tick_at, reply_at}
 use Rattle.laws.specs.Acts.{Act, entering, deleting, ordering, levelling, ticking, act_step, act_reply}
 use Rattle.laws.specs.Kept.{Quiet}
-use Rattle.laws.specs.Blocks.{block_to_come, with_block, taken_after, runs_programs}
+use Rattle.orders.specs.Modes.{runs_programs}
+use Rattle.laws.specs.Blocks.{block_to_come, with_block, taken_after}
 use Rattle.laws.proofs.InUse.{Such}
 use Rattle.laws.proofs.Held.{begins_stored}
 use Rattle.laws.proofs.Accepting.{other_mode, accepted_by}

@@ -1,6 +1,6 @@
 -- The blocks that an axis takes of its programs, over every run of acts on a new axis: the M number that they show, and where
 -- the move of a block goes.
-use Rattle.std.specs.Prelude.{◌≡◌, ℕ, Bool, cond, ◌||◌, List, [], ◌∷◌, ◌++◌, Some, None, Option, ◌==◌}
+use Rattle.std.specs.Prelude.{◌≡◌, ℕ, cond, List, [], ◌∷◌, ◌++◌, Some, None, Option}
 use Rattle.std.specs.Option.{unwrap_or, option_or}
 use Rattle.reader.specs.declared.block.Block.{Block}
 use Rattle.drives.specs.Meaning.{Meaning, Sound}
@@ -8,6 +8,7 @@ use Rattle.store.specs.Programs.{Programs}
 use Rattle.states.specs.State.{Course, Travel, Phase, standing, moving, braking, held, between, AxisState}
 use Rattle.states.specs.declared.fault.AxisFault.{AxisFault}
 use Rattle.states.specs.Observation.{Shown, observed}
+use Rattle.orders.specs.Modes.{runs_programs}
 use Rattle.orders.specs.Orders.{names_program}
 use Rattle.ticks.specs.Blocks.{next_block}
 use Rattle.ticks.specs.Ticks.{tick_step}
@@ -51,10 +52,6 @@ blocks_taken a (e ∷ es) bs = blocks_taken (step e a) es (taken_next e a bs)
 abbrev pub last_m : List Block → Option ℕ
 last_m [] = None
 last_m (b ∷ bs) = option_or (last_m bs) b.auxiliary
-
--- modes 8 and 9
-abbrev pub runs_programs : ℕ → Bool
-runs_programs mode = mode == 8 || mode == 9
 
 -- in modes 8 and 9 the M of the last block taken that has one, 2 before; in all other modes 2
 abbrev pub shown_m : ℕ → List Block → ℕ

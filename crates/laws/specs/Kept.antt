@@ -1,5 +1,5 @@
 -- What every state that an axis can reach keeps.
-use Rattle.std.specs.Prelude.{◌≡◌, ℕ, ◌*◌, Bool, true, false, ◌||◌, ℤ, pos, negsuc, ◌+ℤ◌, ◌-ℤ◌, neg_ℤ, ◌≤ℤ◌, is_some, Some, None, Option, ◌==◌, unsigned_abs}
+use Rattle.std.specs.Prelude.{◌≡◌, ℕ, ◌*◌, Bool, true, false, ℤ, pos, negsuc, ◌+ℤ◌, ◌-ℤ◌, neg_ℤ, ◌≤ℤ◌, is_some, Some, None, Option, unsigned_abs}
 use Rattle.drives.specs.Meaning.{Meaning, Sound}
 use Rattle.motion.specs.declared.raw.RawData.{RawData}
 use Rattle.motion.specs.Data.{InRange, Agree}
@@ -8,6 +8,7 @@ use Rattle.motion.specs.Places.{pulses_by}
 use Rattle.motion.specs.Travel.{passed_in}
 use Rattle.motion.specs.Laws.{Near, Safe}
 use Rattle.states.specs.State.{Travel, Phase, standing, moving, braking, held, between, Work, AxisState, course_of}
+use Rattle.orders.specs.Modes.{runs_programs}
 
 -- a coordinate is within the limits
 abbrev pub InLimits : RawData → ℤ → Type 0
@@ -68,7 +69,7 @@ KeptBy (Some d) m w = KeptWith d m w
 
 -- outside modes 8 and 9 the M number is 2, and no program runs or is held
 abbrev pub Quiet : Work → Type 0
-Quiet w = (w.mode == 8 || w.mode == 9) ≡ false → (w.auxiliary ≡ 2) × (course_of w.phase ≡ None)
+Quiet w = runs_programs w.mode ≡ false → (w.auxiliary ≡ 2) × (course_of w.phase ≡ None)
 
 -- a program that runs or is held has a reference, so that 19 asked of a block always goes by the limits of the machine data
 abbrev pub Referenced : Work → Type 0

@@ -31,14 +31,14 @@ stop_given a [] stopped = stopped
 stop_given a (e ∷ es) stopped = stop_given (step e a) es (stop_next e a stopped)
 
 -- a move is braked, or was stopped before its target
-abbrev pub is_cut : Phase → Bool
-is_cut standing = false
-is_cut (moving t) = false
-is_cut (braking t) = true
-is_cut (held c u) = is_some u
-is_cut (between c) = false
+abbrev pub brakes_or_unfinished : Phase → Bool
+brakes_or_unfinished standing = false
+brakes_or_unfinished (moving t) = false
+brakes_or_unfinished (braking t) = true
+brakes_or_unfinished (held c u) = is_some u
+brakes_or_unfinished (between c) = false
 
 -- that comes of a stop alone
 abbrev pub Stopped : Type 0
-Stopped = (m : Meaning) (es : List Event) → is_cut (after (new_axis m) es).status.work.phase ≡ true
+Stopped = (m : Meaning) (es : List Event) → brakes_or_unfinished (after (new_axis m) es).status.work.phase ≡ true
     → stop_given (new_axis m) es false ≡ true

@@ -19,7 +19,7 @@ use Rattle.module.specs.declared.call.Call.TheVariants.{OnAxis, Open, Add, Close
 use Rattle.module.specs.State.{Machine}
 use Rattle.module.specs.Machine.{in_use, with_programs, step, new_machine, after}
 use Rattle.module.specs.History.{Which, first, second, third, axis_at, act_on}
-use Rattle.module.specs.Blocks.{taken_by, taken_in, InOrder, BlocksInOrder, ProgramBlocks}
+use Rattle.module.specs.Blocks.{taken_by, blocks_in, InOrder, BlocksInOrder, ProgramBlocks}
 use Rattle.module.proofs.Axes.{left_by, step_at, one_more as with_event, events, after_at}
 use Rattle.module.proofs.InUse.{SameFor, closed_still, no_axis, other_number}
 
@@ -136,7 +136,7 @@ step_front w c s bs u =
     (left_front (act_on w c) s.programs (axis_at w s) bs u))
 
 after_front : (w : Which) (cs : List Call) (s : Machine) (bs : List Block) → FrontAt w s bs
-    → FrontAt w (after s cs) (taken_in w s cs bs)
+    → FrontAt w (after s cs) (blocks_in w s cs bs)
 after_front w [] s bs u = u
 after_front w (c ∷ cs) s bs u =
     after_front w cs (step c s) (taken_by (act_on w c) s.programs (axis_at w s) bs) (step_front w c s bs u)
@@ -162,10 +162,10 @@ in_order p bs o c e h =
     }
 
 blocks_in_order : (x y z : Meaning) (calls : List Call) (w : Which)
-    → BlocksInOrder w (after (new_machine x y z) calls) (taken_in w (new_machine x y z) calls [])
+    → BlocksInOrder w (after (new_machine x y z) calls) (blocks_in w (new_machine x y z) calls [])
 blocks_in_order x y z calls w c e =
     let s = new_machine x y z in
-    in_order (after s calls).programs (taken_in w s calls []) _ c e (after_front w calls s [] (new_front x y z w))
+    in_order (after s calls).programs (blocks_in w s calls []) _ c e (after_front w calls s [] (new_front x y z w))
 
 -- THE M NUMBER
 
@@ -176,7 +176,7 @@ taken_one None p a es bs = refl
 taken_one (Some act) p a es bs = refl
 
 taken_same : (w : Which) (cs : List Call) (s : Machine) (bs : List Block)
-    → taken_in w s cs bs ≡ blocks_taken (axis_at w s) (events w s cs) bs
+    → blocks_in w s cs bs ≡ blocks_taken (axis_at w s) (events w s cs) bs
 taken_same w [] s bs = refl
 taken_same w (c ∷ cs) s bs =
     let es = events w (step c s) cs in
@@ -185,19 +185,19 @@ taken_same w (c ∷ cs) s bs =
     ∙ taken_one (act_on w c) s.programs (axis_at w s) es bs
 
 m_number_of : (w : Which) (m : Meaning) → Sound m → (s : Machine) → axis_at w s ≡ one.new_axis m → (calls : List Call)
-    → ShowsM (observed (axis_at w (after s calls)).status) (taken_in w s calls [])
+    → ShowsM (observed (axis_at w (after s calls)).status) (blocks_in w s calls [])
 m_number_of w m sound s q calls =
     let es = events w s calls in
     rw (after_at w calls s, taken_same w calls s [])
     (subst (λ (a : AxisState). ShowsM (observed (one.after a es).status) (blocks_taken a es [])) (sym q) (m_number m sound es))
 
 m_number_at : (x y z : Meaning) → Sound x → Sound y → Sound z → (calls : List Call) (w : Which)
-    → ShowsM (observed (axis_at w (after (new_machine x y z) calls)).status) (taken_in w (new_machine x y z) calls [])
+    → ShowsM (observed (axis_at w (after (new_machine x y z) calls)).status) (blocks_in w (new_machine x y z) calls [])
 m_number_at x y z sx sy sz calls first = m_number_of first x sx (new_machine x y z) refl calls
 m_number_at x y z sx sy sz calls second = m_number_of second y sy (new_machine x y z) refl calls
 m_number_at x y z sx sy sz calls third = m_number_of third z sz (new_machine x y z) refl calls
 
 pub program_blocks : (x y z : Meaning) → Sound x → Sound y → Sound z → (calls : List Call) (w : Which)
-    → ProgramBlocks w (after (new_machine x y z) calls) (taken_in w (new_machine x y z) calls [])
+    → ProgramBlocks w (after (new_machine x y z) calls) (blocks_in w (new_machine x y z) calls [])
 program_blocks x y z sx sy sz calls w =
     record { order = blocks_in_order x y z calls w; m_number = m_number_at x y z sx sy sz calls w }

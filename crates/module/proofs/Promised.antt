@@ -8,7 +8,7 @@ use Rattle.laws.specs.Kept.{Kept}
 use Rattle.laws.specs.Laws as laws
 use Rattle.laws.specs.Reckoned as reckoned
 use Rattle.laws.specs.Started.{program_given}
-use Rattle.laws.specs.Stopped.{stop_given, is_cut}
+use Rattle.laws.specs.Stopped.{stop_given, brakes_or_unfinished}
 use Rattle.laws.proofs.Invariant.{invariant, no_pulse_refused}
 use Rattle.laws.proofs.Reckoning.{reference_law, drift_bound, limits}
 use Rattle.laws.proofs.Shifts.{shift}
@@ -84,7 +84,7 @@ module _ (w : Which) (m : Meaning) (sound : Sound m) (s : Machine) (q : axis_at 
 
   stop_holds : StoppedLaw w s calls hs
   stop_holds e =
-      let i = ap (λ (a : AxisState). is_cut a.status.work.phase) end in
+      let i = ap (λ (a : AxisState). brakes_or_unfinished a.status.work.phase) end in
       stop_is ∙ stopped_alone m (events w s calls) (sym i ∙ e)
 
   -- so without a start there is no program

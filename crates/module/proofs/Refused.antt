@@ -17,12 +17,14 @@ use Rattle.states.specs.declared.fault.AxisFault.{AxisFault}
 use Rattle.states.specs.Faults.{cause_number}
 use Rattle.states.specs.declared.order.Order.{Order as OrderGiven}
 use Rattle.states.specs.Entry.{enter_no, delete_no, call_reply, unless}
+use Rattle.states.specs.Asking.{Questions, ◌asks◌, move_questions}
+use Rattle.states.specs.Courses.{course_rate}
 use Rattle.states.specs.Effects.{fault_at, fault_in}
 use Rattle.states.specs.State.{Course, Travel, Phase, standing, moving, braking, held, between, Work, Status, AxisState}
 use Rattle.orders.specs.declared.plan.Plan.{Plan}
 use Rattle.orders.specs.Questions.{verdict}
 use Rattle.orders.specs.Orders.{order_fault, answered as order_answered, left}
-use Rattle.ticks.specs.Blocks.{with_words, block_verdict, begun_with, begun_reply, block_run, block_reply, next_run, next_reply, next_block}
+use Rattle.ticks.specs.Blocks.{with_words, block_target, block_verdict, begun_with, begun_reply, block_run, block_reply, next_run, next_reply, next_block}
 use Rattle.ticks.specs.Ticks.{with_status, trouble_of, trouble_reply, unless_trouble, tick_at, reply_at as tick_reply_at}
 use Rattle.module.specs.declared.call.Act.{Act}
 use Rattle.module.specs.declared.call.Act.TheVariants.{Enter, Delete, Order, Level, Tick, Observe}
@@ -94,18 +96,38 @@ stopped_refused (Some cause) t n f a next m h e =
       g,
       told n g f e,
       record {
-        number = λ z. its_number t.course cause ∙ k.0;
+        number = λ z. ap of_tick (its_number t.course cause) ∙ k.0;
         at_once = λ z. (t, m, refl);
         not_taken = λ z. absurd (false≢true (sym z ∙ k.1));
       },
     )
 
+-- what holds of every cause in a list of questions holds of the one that answers
+abbrev EachCause : (Cause → Type 0) → Questions → Type 0
+EachCause P [] = Unit {0}
+EachCause P (q ∷ qs) = P q.1 × EachCause P qs
+
+by_one : (P : Cause → Type 0) (b : Bool) (c d : Cause) (r : Result Aim Cause) → cond b r (Err c) ≡ Err d → P c
+    → (r ≡ Err d → P d) → P d
+by_one P true c d r e h k = k e
+by_one P false c d r e h k = let i : c ≡ d = cc in subst P i h
+
+answered_by : (P : Cause → Type 0) (qs : Questions) (a : Aim) (d : Cause) → qs asks Ok a ≡ Err d → EachCause P qs → P d
+answered_by P [] a d e h = absurd (cc)
+answered_by P (q ∷ qs) a d e h = by_one P q.0 q.1 d (qs asks Ok a) e h.0 (λ i. answered_by P qs a d i h.1)
+
 -- a block is refused by 18 to 21
+abbrev OfBlock : Course → Cause → Type 0
+OfBlock c cause = (of_tick (cause_number cause) ≡ true) × (loses (Err (fault_in (Some c) cause)) ≡ false)
+
 verdict_number : (o : Option RawData) (c : Course) (x : ℤ) (m : Meaning) (w : Work) (cause : Cause)
     → block_verdict o c x m w ≡ Err cause
     → (is_some o ≡ true → of_tick (cause_number cause) ≡ true) × (loses (Err (fault_in (Some c) cause)) ≡ false)
 verdict_number None c x m w cause e = (λ z. cc, grind arith)
-verdict_number (Some d) c x m w cause e = (λ z. grind arith, grind arith)
+verdict_number (Some d) c x m w cause e =
+    let qs = move_questions d (course_rate d c) (block_target d c x w) m w.zero w.referenced in
+    let k = answered_by (OfBlock c) qs _ cause e ((refl, refl), ((refl, refl), ((refl, refl), ((refl, refl), tt)))) in
+    (λ z. k.0, k.1)
 
 begun_refused : (v : Result Aim Cause) (c d : Course) (n : ℕ) (f : Fault) (a : AxisState) → a.status.work.phase ≡ between d
     → ((cause : Cause) → v ≡ Err cause

@@ -11,14 +11,14 @@ use Rattle.ticks.specs.Ticks.{with_status}
 use Rattle.module.specs.declared.call.Act.TheVariants.{Enter}
 use Rattle.module.specs.State.{Machine}
 use Rattle.module.specs.Machine.{step}
-use Rattle.module.specs.Examples.{outcome, Turn, outcomes, Row, numbers, run, stages, Comes, on_first, does, observes, axis_a, coarse, offset_a, ramp, hundred, stopped, three_moves, feedback, at_limit, past_limit, offset_in_program, WorkedExamples}
+use Rattle.module.specs.Examples.{outcome, Asked, outcomes, Row, numbers, run, stages, Comes, on_first, does, observes, axis_a, coarse, offset_a, ramp, hundred, stopped, three_moves, feedback, at_limit, past_limit, offset_in_program, WorkedExamples}
 
 -- TURN BY TURN
 
-abbrev Turns : Machine → List Turn → Type 0
+abbrev Turns : Machine → List Asked → Type 0
 Turns s ts = outcomes s ts ≡ map (λ t. t.wanted) ts
 
-turned : (t : Turn) (ts : List Turn) (s s′ : Machine) → outcome t.call s ≡ t.wanted → step t.call s ≡ s′ → Turns s′ ts → Turns s (t ∷ ts)
+turned : (t : Asked) (ts : List Asked) (s s′ : Machine) → outcome t.call s ≡ t.wanted → step t.call s ≡ s′ → Turns s′ ts → Turns s (t ∷ ts)
 turned t ts s s′ now next later =
     ap (λ o. o ∷ outcomes (step t.call s) ts) now
     ∙ ap (λ os. t.wanted ∷ os) (subst (λ (m : Machine). Turns m ts) (sym next) later)
@@ -34,7 +34,7 @@ entered d = record {
   programs = stages.programs;
 }
 
-entering : (d : RawData) (ts : List Turn) → data_refusal d ≡ None → Turns (entered d) ts → Turns stages (does (on_first (Enter d)) ∷ ts)
+entering : (d : RawData) (ts : List Asked) → data_refusal d ≡ None → Turns (entered d) ts → Turns stages (does (on_first (Enter d)) ∷ ts)
 entering d ts h later = turned (does (on_first (Enter d))) ts stages (entered d) (rw h refl) (rw h refl) later
 
 -- the ramp of axis A is at its end with the sixth step, and stays there
@@ -63,11 +63,11 @@ takes_coarse = rw flat refl
 
 -- THE ROWS
 
-abbrev turns_of : Row → List Turn
+abbrev turns_of : Row → List Asked
 turns_of (numbers got wanted) = []
-turns_of (run turns) = turns
+turns_of (run calls) = calls
 
-abbrev rest : List Turn → List Turn
+abbrev rest : List Asked → List Asked
 rest [] = []
 rest (t ∷ ts) = ts
 
@@ -100,7 +100,7 @@ offset_in_program_comes = entering offset_a (rest (turns_of offset_in_program)) 
 
 feedback_comes : Comes feedback
 feedback_comes =
-    let ts : List Turn = rest (turns_of feedback) in
+    let ts : List Asked = rest (turns_of feedback) in
     turned (observes 0 0xE0 0) ts stages stages refl refl (entering axis_a (rest ts) takes_a refl)
 
 pub worked : WorkedExamples

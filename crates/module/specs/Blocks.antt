@@ -18,9 +18,9 @@ taken_by None p a bs = bs
 taken_by (Some act) p a bs = taken_next (record { act = act; programs = p }) a bs
 
 -- the blocks that an axis took in a list of calls since the last accepted start, in order
-abbrev pub taken_in : Which → Machine → List Call → List Block → List Block
-taken_in w s [] bs = bs
-taken_in w s (c ∷ cs) bs = taken_in w (step c s) cs (taken_by (act_on w c) s.programs (axis_at w s) bs)
+abbrev pub blocks_in : Which → Machine → List Call → List Block → List Block
+blocks_in w s [] bs = bs
+blocks_in w s (c ∷ cs) bs = blocks_in w (step c s) cs (taken_by (act_on w c) s.programs (axis_at w s) bs)
 
 -- the blocks taken are the first of a stored program, each once; the next that is taken is the first of those left
 pub record InOrder (p : Programs) (c : Course) (bs : List Block) : Type 0 where

@@ -1,5 +1,5 @@
 -- What a run of calls on a new module promises.
-use Rattle.std.specs.Prelude.{◌≡◌, ◌⊎◌, ℕ, ◌≤◌, max, true, false, ◌||◌, List, [], ◌∷◌, ◌++◌, ℤ, pos, ◌+ℤ◌, ◌-ℤ◌, map, vec_items, is_some, Some, None, Ok, Err, Option, Result, ◌==◌}
+use Rattle.std.specs.Prelude.{◌≡◌, ◌⊎◌, ℕ, ◌≤◌, max, true, false, List, [], ◌∷◌, ◌++◌, ℤ, pos, ◌+ℤ◌, ◌-ℤ◌, map, vec_items, is_some, Some, None, Ok, Err, Option, Result}
 use Rattle.drives.specs.Meaning.{Meaning, Sound}
 use Rattle.motion.specs.declared.raw.RawData.{RawData}
 use Rattle.motion.specs.Laws.{Near}
@@ -7,10 +7,10 @@ use Rattle.states.specs.declared.order.Order.{Order}
 use Rattle.states.specs.declared.fault.AxisFault.{AxisFault}
 use Rattle.states.specs.State.{Course, Phase, course_of}
 use Rattle.states.specs.Observation.{Shown, observed}
-use Rattle.orders.specs.Modes.{stops}
+use Rattle.orders.specs.Modes.{stops, runs_programs}
 use Rattle.laws.specs.Kept.{InLimits}
 use Rattle.laws.specs.Laws.{TakenIn, step_of, stands_in, rest_of, RestsIn}
-use Rattle.laws.specs.Stopped.{is_cut}
+use Rattle.laws.specs.Stopped.{brakes_or_unfinished}
 use Rattle.module.specs.declared.call.Act.TheVariants as act
 use Rattle.module.specs.declared.call.Call.{Call}
 use Rattle.module.specs.declared.call.Call.TheVariants.{OnAxis}
@@ -22,7 +22,7 @@ use Rattle.module.specs.Replies.{reply_by}
 use Rattle.module.specs.History.{Which, number, axis_at, PastAct, history, data_in, program_in, zero_in, offset_in, tool_in, reference_in, stop_in, ticks_of}
 use Rattle.module.specs.Given.{accepted, sets_offset, adds_offset, sets_tool, adds_tool, LastAndAfter}
 use Rattle.module.specs.InUse.{ProgramsInUse}
-use Rattle.module.specs.Blocks.{taken_in, ProgramBlocks}
+use Rattle.module.specs.Blocks.{blocks_in, ProgramBlocks}
 use Rattle.module.specs.State.{Machine}
 
 -- EXACT: the replies, and the drives after the calls, are the machine's
@@ -106,7 +106,7 @@ StartedLaw w s calls hs = (c : Course) → course w s calls ≡ Some c → progr
 
 -- outside modes 8 and 9 the M number is 2, and no program runs or is held
 abbrev pub QuietLaw : Which → Machine → List Call → Type 0
-QuietLaw w s calls = ((shows w s calls).mode == 8 || (shows w s calls).mode == 9) ≡ false
+QuietLaw w s calls = runs_programs (shows w s calls).mode ≡ false
     → ((shows w s calls).auxiliary ≡ 2) × (course w s calls ≡ None)
 
 -- a program that runs or is held has a reference
@@ -115,7 +115,7 @@ ReferencedLaw w s calls hs = is_some (course w s calls) ≡ true → reference_i
 
 -- a move is braked, and a program held before the target of its block, only after a stop
 abbrev pub StoppedLaw : Which → Machine → List Call → List PastAct → Type 0
-StoppedLaw w s calls hs = is_cut (axis_at w (after s calls)).status.work.phase ≡ true → stop_in hs false ≡ true
+StoppedLaw w s calls hs = brakes_or_unfinished (axis_at w (after s calls)).status.work.phase ≡ true → stop_in hs false ≡ true
 
 pub record ProgramLaw (w : Which) (s : Machine) (calls : List Call) (hs : List PastAct) : Type 0 where
   pub started : StartedLaw w s calls hs
@@ -129,7 +129,7 @@ pub record Promise (x y z : Meaning) (calls : List Call) (answers : List Reply) 
   pub no_drift : (w : Which) → NoDrift w (new_machine x y z) calls (history w (new_machine x y z) calls answers)
   pub in_use : ProgramsInUse x y z calls
   pub program : (w : Which) → ProgramLaw w (new_machine x y z) calls (history w (new_machine x y z) calls answers)
-  pub blocks : (w : Which) → ProgramBlocks w (after (new_machine x y z) calls) (taken_in w (new_machine x y z) calls [])
+  pub blocks : (w : Which) → ProgramBlocks w (after (new_machine x y z) calls) (blocks_in w (new_machine x y z) calls [])
 
 -- from any module that calls have reached: a call, with what it is answered and what it leaves, keeps the promise of the calls
 -- before it

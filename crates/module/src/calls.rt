@@ -18,8 +18,8 @@ use store::StoreFault;
 
 // Every call has a form of its own, and one by which it comes over the cable.
 impl<X: Drive, Y: Drive, Z: Drive> Module<X, Y, Z> {
-    /// A call as it comes over the cable. An entry is then named by its number. Whatever calls came before it,
-    /// the promise of a run goes on with it, and a refusal does what its number says and nothing else.
+    /// A call as it comes over the cable. An entry is then named by its number. Whatever calls came before
+    /// it, the promise of a run goes on with it, and a refusal does what its number says and nothing else.
     pub fn call(&mut self, call: Call) -> Result<Answer, Fault>
         ensures value { reply_by result ≡ reply call.entry self.old }
         ensures after { self.new ≡ step call.entry self.old }

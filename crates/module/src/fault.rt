@@ -87,6 +87,7 @@ impl Fault {
         }
     }
 
+    /// Where the fault is: for a line its byte, else the axis, program and block that the call names or runs.
     pub fn place(self) -> Place
         ensures { result ≡ place_of self }
     {

@@ -1,5 +1,5 @@
 -- The modes: which commands each admits and which values it uses.
-use Rattle.std.specs.Prelude.{ℕ, Bool, true, false, not, ◌&&◌, ◌||◌, ℤ, pos, negsuc, int_le, nat_le}
+use Rattle.std.specs.Prelude.{ℕ, Bool, true, false, not, ◌&&◌, ◌||◌, ℤ, pos, negsuc, ◌==◌, int_le, nat_le}
 use Rattle.states.specs.declared.order.Order.{Order}
 use Rattle.states.specs.declared.order.Command.{Command}
 use Rattle.states.specs.declared.order.Command.TheVariants.{Start, Stop, Forward, Backward, TakeOver}
@@ -40,6 +40,10 @@ runs Stop = false
 runs Forward = true
 runs Backward = true
 runs TakeOver = false
+
+-- modes 8 and 9
+abbrev pub runs_programs : ℕ → Bool
+runs_programs mode = mode == 8 || mode == 9
 
 -- a mode by columns: the commands that it admits, whether it needs neither machine data nor reference, whether it needs the
 -- reference, uses the speed and the double word, and has no negative double word

@@ -11,13 +11,13 @@ use Rattle.states.specs.Effects.{fault_at, fault_in}
 use Rattle.states.specs.Mode.{mode_number}
 use Rattle.orders.specs.declared.plan.Plan.{Plan}
 use Rattle.orders.specs.declared.plan.Accepted.{Accepted}
-use Rattle.orders.specs.Modes.{starts, takes_over}
+use Rattle.orders.specs.Modes.{starts, takes_over, runs_programs}
 use Rattle.orders.specs.Questions.{verdict}
 use Rattle.orders.specs.Effects.{carried, refused}
 
 -- a start of mode 8 or 9 names a program by its byte
 abbrev pub names_program : Order → Bool
-names_program o = (o.mode == 8 || o.mode == 9) && starts o.command
+names_program o = runs_programs o.mode && starts o.command
 
 -- 17 and 21 at take-over are at the held program and its block
 abbrev pub at_hold : Order → Cause → Bool

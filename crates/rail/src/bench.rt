@@ -3,7 +3,7 @@ ghost use Rattle.module.specs.declared.call.Act.TheVariants.{Tick};
 ghost use Rattle.module.specs.declared.call.Call.TheVariants.{OnAxis};
 ghost use Rattle.module.specs.Machine.{reply, step};
 ghost use Rattle.module.specs.Replies.{reply_by, refusal_in};
-ghost use Rattle.rail.specs.declared.bench.NotMade.TheVariants.{Drive as DriveRefused};
+ghost use Rattle.rail.specs.declared.bench.NoBench.TheVariants.{Drive as DriveRefused};
 ghost use Rattle.rail.specs.Bench.{NewBench};
 ghost use Rattle.rail.specs.Ticks.{counted};
 
@@ -27,22 +27,22 @@ pub struct Bench {
 
 /// Why there is no bench: a drive that cannot be made, or no memory.
 #[derive(Debug, Drop)]
-pub enum NotMade {
+pub enum NoBench {
     Drive(DriveFault),
     Memory(AllocError),
 }
 
-impl From<DriveFault> for NotMade {
+impl From<DriveFault> for NoBench {
     ghost from_gives = { λ fault result. result ≡ DriveRefused fault };
 
-    fn from(fault: DriveFault) -> NotMade {
-        NotMade::Drive(fault)
+    fn from(fault: DriveFault) -> NoBench {
+        NoBench::Drive(fault)
     }
 }
 
 impl Bench {
     /// Makes the drives that a script asks for, and a new module on them.
-    pub fn new(heap: Global, builds: [Build; 3]) -> Result<Bench, NotMade>
+    pub fn new(heap: Global, builds: [Build; 3]) -> Result<Bench, NoBench>
         ensures { NewBench builds result }
     {
         let drives = drives_of(builds)?;
@@ -57,7 +57,7 @@ impl Bench {
                 builds,
                 accounts,
             }),
-            Err(not_made) => Err(NotMade::Memory(not_made.error)),
+            Err(not_made) => Err(NoBench::Memory(not_made.error)),
         }
     }
 
@@ -120,6 +120,7 @@ impl Bench {
         }
     }
 
+    /// The counts of the three drives.
     pub fn counts(&self) -> [i64; 3]
         ensures { result ≡ self.now.module.first.drive.count ∷ self.now.module.second.drive.count ∷ self.now.module.third.drive.count ∷ [] }
     {

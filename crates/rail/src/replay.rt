@@ -1,4 +1,4 @@
-use crate::bench::{Bench, NotMade};
+use crate::bench::{Bench, NoBench};
 use crate::build::drives_of;
 use crate::rail::Rail;
 use drives::fault::DriveFault;
@@ -16,11 +16,11 @@ pub enum Stop {
     Output(#[from] anyhow::Error),
 }
 
-impl From<NotMade> for Stop {
-    fn from(not_made: NotMade) -> Stop {
+impl From<NoBench> for Stop {
+    fn from(not_made: NoBench) -> Stop {
         match not_made {
-            NotMade::Drive(fault) => Stop::Drive(fault),
-            NotMade::Memory(error) => Stop::Output(error.into()),
+            NoBench::Drive(fault) => Stop::Drive(fault),
+            NoBench::Memory(error) => Stop::Output(error.into()),
         }
     }
 }

@@ -17,6 +17,7 @@ pub enum LineFault {
 }
 
 impl LineFault {
+    /// The number of the question: 31 to 34.
     pub fn number(&self) -> u8
         ensures { result ≡ number_of self.now }
     {

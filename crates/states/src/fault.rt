@@ -69,6 +69,7 @@ pub struct AxisFault {
 }
 
 impl Cause {
+    /// The number of the question, as in the comments of the cases.
     pub fn number(self) -> u8
         ensures { result ≡ cause_number self }
     {
@@ -95,6 +96,7 @@ impl Cause {
         }
     }
 
+    /// The part of the core in which the fault arises.
     pub fn layer(self) -> Layer
         ensures { result ≡ cause_layer self }
     {

@@ -3,7 +3,8 @@ ghost use Rattle.states.specs.Observation.{shown_by, shown_with};
 
 use crate::mode::Mode;
 
-/// What observing answers, with a fault of the kind of whoever answers. Coordinates, shift and rest are in units.
+/// What observing answers, with a fault of the kind of whoever answers: an axis's own, or the module's.
+/// Coordinates, shift and rest are in units.
 #[derive(Clone, Copy, PartialEq, Eq, Debug)]
 pub struct Observation<F> {
     pub mode: Mode,

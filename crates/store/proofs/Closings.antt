@@ -1,12 +1,13 @@
 -- The closing question, followed block by block, says what it should.
-use Rattle.std.proofs.Common.{◌≡◌, ℕ, suc, ◌+◌, ◌-◌, ◌<◌, Bool, true, false, not, eqb, List, [], ◌∷◌, ◌++◌, length, get_or, drop, is_some, Some, None, Ok, Err, Option, unwrap_or, sym, refl, ap, ◌∙◌, subst, inl, inr, arith}
+use Rattle.std.proofs.Common.{◌≡◌, ℕ, suc, ◌+◌, ◌-◌, ◌<◌, Bool, true, false, not, eqb, List, [], ◌∷◌, ◌++◌, length, get_or, drop, is_some, Some, None, Ok, Err, Option, unwrap_or, sym, refl, ap, ◌∙◌, subst, inl, inr, arith, eqb-true, cond, Result}
 use Rattle.std.specs.Option.{option_or}
 use Rattle.std.proofs.lemmas.List.{at_drop_more, length-drop}
-use Rattle.std.proofs.lemmas.Bool.{and_parts, cases_lt, eq-eqb, ne_eqb}
+use Rattle.std.proofs.lemmas.Bool.{and_parts, cases_lt, eq-eqb, ne_eqb, false≢true}
 use Rattle.reader.specs.declared.block.Motion.{Motion}
 use Rattle.reader.specs.declared.block.Motion.TheVariants.{Rapid, Feed}
 use Rattle.reader.specs.declared.block.Block.{Block}
-use Rattle.store.specs.declared.fault.StoreFault.TheVariants.{NotClosable}
+use Rattle.store.specs.declared.fault.StoreFault.{StoreFault}
+use Rattle.store.specs.declared.fault.StoreFault.TheVariants.{NotClosable, NotOpen}
 use Rattle.store.specs.Programs.{Program, Programs}
 use Rattle.store.specs.Closing.{ends, fed, fits_at, is_empty, each_fits, closable}
 use Rattle.store.specs.Entry.{end_reply, close_reply, close_reply_of, closed}
@@ -151,12 +152,27 @@ refused_open : (n k : ℕ) (p : Program) (b : Bool) → eqb p.number n ≡ b →
 refused_open n k p false b e = cc
 refused_open n k p true b e = not_closable n k p (closable p.blocks) refl (cc)
 
-refused_as : (n k : ℕ) (o : Option Program) → close_reply_of o n ≡ Err (NotClosable k) → (p : Program) × (o ≡ Some p) × (closable p.blocks ≡ false)
+-- 35 names the number that is closed, and that number is the open entry's
+abbrev answer : Bool → Bool → ℕ → Result (Unit {0}) StoreFault
+answer b c n = cond b (cond c (Ok tt) (Err (NotClosable n))) (Err (NotOpen n))
+
+its_number : (b c : Bool) (n k : ℕ) → answer b c n ≡ Err (NotClosable k)
+    → (k ≡ n) × (b ≡ true)
+its_number false c n k e = cc
+its_number true true n k e = cc
+its_number true false n k e = (cc, refl)
+
+refused_as : (n k : ℕ) (o : Option Program) → close_reply_of o n ≡ Err (NotClosable k)
+    → (k ≡ n) × (p : Program) × (o ≡ Some p) × (p.number ≡ n) × (closable p.blocks ≡ false)
 refused_as n k None e = cc
-refused_as n k (Some p) e = (p, refl, refused_open n k p (eqb p.number n) refl e)
+refused_as n k (Some p) e =
+    let i = its_number (eqb p.number n) (closable p.blocks) n k e in
+    (i.0, p, refl, eqb-true p.number n i.1, refused_open n k p (eqb p.number n) refl e)
 
 pub closes : Closes
 closes = record {
   stored = λ n p s e q on h. closes_open n p s e (eq-eqb p.number n q) (may_close p.blocks on h);
-  refused = λ n k s e. let o = refused_as n k s.entry e in (o.0, o.1, λ on h. let yes : closable o.0.blocks ≡ true = may_close o.0.blocks on h in let no : closable o.0.blocks ≡ false = o.2 in cc);
+  refused = λ n k s e.
+      let o = refused_as n k s.entry e in
+      (o.0, o.1, o.2, o.3, λ on h. absurd (false≢true (sym o.4 ∙ may_close o.1.blocks on h)));
 }

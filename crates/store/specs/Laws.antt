@@ -120,4 +120,4 @@ pub record Closes : Type 0 where
   pub stored : (n : ℕ) (p : Program) (s : Programs) → s.entry ≡ Some p → p.number ≡ n → EndsOnce p.blocks → Fed p.blocks
       → (close_reply n s ≡ Ok tt) × (closed n s ≡ record { stored = s.stored ++ p ∷ []; entry = None })
   pub refused : (n k : ℕ) (s : Programs) → close_reply n s ≡ Err (NotClosable k)
-      → (p : Program) × (s.entry ≡ Some p) × (EndsOnce p.blocks → Fed p.blocks → ⊥)
+      → (k ≡ n) × (p : Program) × (s.entry ≡ Some p) × (p.number ≡ n) × (EndsOnce p.blocks → Fed p.blocks → ⊥)

@@ -27,7 +27,8 @@ pub fn take(run: &mut Run, store: &Store) -> Option<Block>
     Some(block)
 }
 
-/// Begins a block that is taken, whatever the axis was doing: its move, or what follows where it has none.
+/// Begins a block that is taken, whatever the axis was doing: its move, or what follows where it has
+/// none.
 pub fn begin_block(
     axis: &mut Record,
     reading: Reading,

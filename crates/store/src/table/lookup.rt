@@ -55,7 +55,7 @@ impl Store {
         }
     }
 
-    // The record of the entry that a number names, lent to be changed, if it is the open one: else 30.
+    // The record of the entry that a number names, lent to be changed, if that is the open one; else 30.
     pub(super) fn entry_mut(&mut self, number: u8) -> Result<&mut Record, StoreFault>
         ensures value { lent_now result ≡ entry_of number self.old.entry }
         ensures* writes_back { sem 𝓛 (LendsEntry self.entry result) }
