@@ -35,9 +35,8 @@ use Rattle.module.specs.Faults.{number_of}
 use Rattle.module.specs.State.{Machine}
 use Rattle.module.specs.History.{Which, first, second, third, number, axis_at}
 use Rattle.module.specs.Machine.{done, refused, acted, answered, done_or, at_axis, at_store, in_use, if_named, with_programs, reply, step}
-use Rattle.laws.specs.Reckoned.{loses}
 use Rattle.laws.specs.Blocks.{move_of}
-use Rattle.module.specs.Refusals.{with_values, OrderRefused, of_tick, TickRefused, RefusedAt, without_entry, Refusals}
+use Rattle.module.specs.Refusals.{with_values, OrderRefused, stops_at_once, of_tick, TickRefused, RefusedAt, without_entry, Refusals}
 use Rattle.module.proofs.Axes.{reply_of}
 
 -- refusals are the same fault
@@ -81,13 +80,13 @@ its_number (Some c) cause = refl
 
 -- trouble has the number 24 or 23
 trouble_number : (t : Travel) (a : AxisState) (cause : Cause) → trouble_of t a ≡ Some cause
-    → (of_tick (cause_number cause) ≡ true) × (loses (Err (fault_in t.course cause)) ≡ true)
+    → (of_tick (cause_number cause) ≡ true) × (stops_at_once (cause_number (fault_in t.course cause).cause) ≡ true)
 trouble_number t a cause e = (grind arith, grind arith)
 
 -- a move that is stopped at once
 stopped_refused : (o : Option Cause) (t : Travel) (n : ℕ) (f : Fault) (a next : AxisState) → move_of a.status.work.phase ≡ Some t
     → ((cause : Cause) → o ≡ Some cause
-    → (of_tick (cause_number cause) ≡ true) × (loses (Err (fault_in t.course cause)) ≡ true))
+    → (of_tick (cause_number cause) ≡ true) × (stops_at_once (cause_number (fault_in t.course cause).cause) ≡ true))
     → at_axis n (done_or (trouble_reply o t)) ≡ refused f → RefusedTick n f a (unless_trouble o t a next)
 stopped_refused None t n f a next m h e = absurd (cc)
 stopped_refused (Some cause) t n f a next m h e =
@@ -118,11 +117,11 @@ answered_by P (q ∷ qs) a d e h = by_one P q.0 q.1 d (qs asks Ok a) e h.0 (λ i
 
 -- a block is refused by 18 to 21
 abbrev OfBlock : Course → Cause → Type 0
-OfBlock c cause = (of_tick (cause_number cause) ≡ true) × (loses (Err (fault_in (Some c) cause)) ≡ false)
+OfBlock c cause = (of_tick (cause_number cause) ≡ true) × (stops_at_once (cause_number (fault_in (Some c) cause).cause) ≡ false)
 
 verdict_number : (o : Option RawData) (c : Course) (x : ℤ) (m : Meaning) (w : Work) (cause : Cause)
     → block_verdict o c x m w ≡ Err cause
-    → (is_some o ≡ true → of_tick (cause_number cause) ≡ true) × (loses (Err (fault_in (Some c) cause)) ≡ false)
+    → (is_some o ≡ true → of_tick (cause_number cause) ≡ true) × (stops_at_once (cause_number (fault_in (Some c) cause).cause) ≡ false)
 verdict_number None c x m w cause e = (λ z. cc, grind arith)
 verdict_number (Some d) c x m w cause e =
     let qs = move_questions d (course_rate d c) (block_target d c x w) m w.zero w.referenced in
@@ -131,7 +130,7 @@ verdict_number (Some d) c x m w cause e =
 
 begun_refused : (v : Result Aim Cause) (c d : Course) (n : ℕ) (f : Fault) (a : AxisState) → a.status.work.phase ≡ between d
     → ((cause : Cause) → v ≡ Err cause
-    → (is_some a.status.machine ≡ true → of_tick (cause_number cause) ≡ true) × (loses (Err (fault_in (Some c) cause)) ≡ false))
+    → (is_some a.status.machine ≡ true → of_tick (cause_number cause) ≡ true) × (stops_at_once (cause_number (fault_in (Some c) cause).cause) ≡ false))
     → at_axis n (done_or (begun_reply v c)) ≡ refused f
     → RefusedTick n f a (with_values (begun_with v a.status.machine c a.status.work) a)
 begun_refused (Ok aim) c d n f a q h e = absurd (cc)

@@ -11,17 +11,17 @@ use Rattle.ticks.specs.Ticks.{with_status}
 use Rattle.module.specs.declared.call.Act.TheVariants.{Enter}
 use Rattle.module.specs.State.{Machine}
 use Rattle.module.specs.Machine.{step}
-use Rattle.module.specs.Examples.{outcome, Asked, outcomes, Row, numbers, run, stages, Comes, on_first, does, observes, axis_a, coarse, offset_a, ramp, hundred, stopped, three_moves, feedback, at_limit, past_limit, offset_in_program, WorkedExamples}
+use Rattle.module.specs.Examples.{outcome, Case, outcomes, Row, numbers, run, stages, Comes, on_first, does, observes, axis_a, coarse, offset_a, ramp, hundred, stopped, three_moves, feedback, at_limit, past_limit, offset_in_program, WorkedExamples}
 
--- TURN BY TURN
+-- CASE BY CASE
 
-abbrev Turns : Machine → List Asked → Type 0
-Turns s ts = outcomes s ts ≡ map (λ t. t.wanted) ts
+abbrev AllCome : Machine → List Case → Type 0
+AllCome s ts = outcomes s ts ≡ map (λ t. t.wanted) ts
 
-turned : (t : Asked) (ts : List Asked) (s s′ : Machine) → outcome t.call s ≡ t.wanted → step t.call s ≡ s′ → Turns s′ ts → Turns s (t ∷ ts)
-turned t ts s s′ now next later =
+case_more : (t : Case) (ts : List Case) (s s′ : Machine) → outcome t.call s ≡ t.wanted → step t.call s ≡ s′ → AllCome s′ ts → AllCome s (t ∷ ts)
+case_more t ts s s′ now next later =
     ap (λ o. o ∷ outcomes (step t.call s) ts) now
-    ∙ ap (λ os. t.wanted ∷ os) (subst (λ (m : Machine). Turns m ts) (sym next) later)
+    ∙ ap (λ os. t.wanted ∷ os) (subst (λ (m : Machine). AllCome m ts) (sym next) later)
 
 -- MACHINE DATA ENTERED
 
@@ -34,8 +34,8 @@ entered d = record {
   programs = stages.programs;
 }
 
-entering : (d : RawData) (ts : List Asked) → data_refusal d ≡ None → Turns (entered d) ts → Turns stages (does (on_first (Enter d)) ∷ ts)
-entering d ts h later = turned (does (on_first (Enter d))) ts stages (entered d) (rw h refl) (rw h refl) later
+entering : (d : RawData) (ts : List Case) → data_refusal d ≡ None → AllCome (entered d) ts → AllCome stages (does (on_first (Enter d)) ∷ ts)
+entering d ts h later = case_more (does (on_first (Enter d))) ts stages (entered d) (rw h refl) (rw h refl) later
 
 -- the ramp of axis A is at its end with the sixth step, and stays there
 ended : after_first axis_a.fs axis_a.fm axis_a.increase 5 ≡ axis_a.fm
@@ -63,11 +63,11 @@ takes_coarse = rw flat refl
 
 -- THE ROWS
 
-abbrev turns_of : Row → List Asked
-turns_of (numbers got wanted) = []
-turns_of (run calls) = calls
+abbrev cases_of : Row → List Case
+cases_of (numbers got wanted) = []
+cases_of (run cases) = cases
 
-abbrev rest : List Asked → List Asked
+abbrev rest : List Case → List Case
 rest [] = []
 rest (t ∷ ts) = ts
 
@@ -77,31 +77,31 @@ ramp_comes = refl
 
 hundred_comes : Comes hundred
 unfolding after_first way ticked_in begun_in placed_in
-hundred_comes = entering axis_a (rest (turns_of hundred)) takes_a refl
+hundred_comes = entering axis_a (rest (cases_of hundred)) takes_a refl
 
 stopped_comes : Comes stopped
 unfolding after_first way ticked_in braked_in begun_in placed_in
-stopped_comes = entering axis_a (rest (turns_of stopped)) takes_a refl
+stopped_comes = entering axis_a (rest (cases_of stopped)) takes_a refl
 
 three_moves_comes : Comes three_moves
 unfolding after_first way ticked_in begun_in placed_in
-three_moves_comes = entering coarse (rest (turns_of three_moves)) takes_coarse refl
+three_moves_comes = entering coarse (rest (cases_of three_moves)) takes_coarse refl
 
 at_limit_comes : Comes at_limit
 unfolding begun_in
-at_limit_comes = entering axis_a (rest (turns_of at_limit)) takes_a refl
+at_limit_comes = entering axis_a (rest (cases_of at_limit)) takes_a refl
 
 past_limit_comes : Comes past_limit
-past_limit_comes = entering axis_a (rest (turns_of past_limit)) takes_a refl
+past_limit_comes = entering axis_a (rest (cases_of past_limit)) takes_a refl
 
 offset_in_program_comes : Comes offset_in_program
 unfolding read
-offset_in_program_comes = entering offset_a (rest (turns_of offset_in_program)) takes_offset refl
+offset_in_program_comes = entering offset_a (rest (cases_of offset_in_program)) takes_offset refl
 
 feedback_comes : Comes feedback
 feedback_comes =
-    let ts : List Asked = rest (turns_of feedback) in
-    turned (observes 0 0xE0 0) ts stages stages refl refl (entering axis_a (rest ts) takes_a refl)
+    let ts : List Case = rest (cases_of feedback) in
+    case_more (observes 0 0xE0 0) ts stages stages refl refl (entering axis_a (rest ts) takes_a refl)
 
 pub worked : WorkedExamples
 worked =

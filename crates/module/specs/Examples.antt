@@ -65,18 +65,18 @@ abbrev pub outcome : Call → Machine → Outcome
 outcome c s = outcome_of (seen (reply c s)) s (step c s)
 
 -- a call with what should come of it
-pub record Asked : Type 0 where
+pub record Case : Type 0 where
   pub call : Call
   pub wanted : Outcome
 
-abbrev pub outcomes : Machine → List Asked → List Outcome
+abbrev pub outcomes : Machine → List Case → List Outcome
 outcomes s [] = []
 outcomes s (t ∷ ts) = outcome t.call s ∷ outcomes (step t.call s) ts
 
 -- ROWS: numbers that come out beside those that should; or calls on a new module with what should come of each
 pub data Row : Type 0 where
   numbers : List ℤ → List ℤ → Row
-  run : List Asked → Row
+  run : List Case → Row
 
 -- three clock stages at 0
 abbrev pub stages : Machine
@@ -84,7 +84,7 @@ stages = new_machine (stage_at (pos 0) false) (stage_at (pos 0) false) (stage_at
 
 abbrev pub Comes : Row → Type 0
 Comes (numbers got wanted) = got ≡ wanted
-Comes (run calls) = outcomes stages calls ≡ map (λ t. t.wanted) calls
+Comes (run cases) = outcomes stages cases ≡ map (λ t. t.wanted) cases
 
 -- CALLS
 
@@ -117,34 +117,34 @@ line n bytes = Add n (record { ref_ptr = (0, 0); now = bytes })
 
 -- CALLS WITH WHAT SHOULD COME OF THEM
 
-abbrev pub asked : Call → Seen → ℕ → ℕ → ℕ → ℕ → Asked
-asked call reply r R pulses coordinate = record {
+abbrev pub case_of : Call → Seen → ℕ → ℕ → ℕ → ℕ → Case
+case_of call reply r R pulses coordinate = record {
   call = call;
   wanted = record { reply = reply; ramp_step = r; left = R; pulses = pos pulses; coordinate = pos coordinate };
 }
 
 -- accepted, and then the axis has no move and is at 0
-abbrev pub does : Call → Asked
-does call = asked call accepted 0 0 0 0
+abbrev pub does : Call → Case
+does call = case_of call accepted 0 0 0 0
 
 -- accepted, with a move under way: r, R and coordinate
-abbrev pub under_way : Call → ℕ → ℕ → ℕ → Asked
-under_way call r R coordinate = asked call accepted r R 0 coordinate
+abbrev pub under_way : Call → ℕ → ℕ → ℕ → Case
+under_way call r R coordinate = case_of call accepted r R 0 coordinate
 
 -- refused with a number; the axis has no move and is at 0
-abbrev pub refuses : Call → ℕ → Asked
-refuses call n = asked call (fault n) 0 0 0 0
+abbrev pub refuses : Call → ℕ → Case
+refuses call n = case_of call (fault n) 0 0 0 0
 
 -- a tick: r and R after it, its pulses, the coordinate after it
-abbrev pub tick : ℕ → ℕ → ℕ → ℕ → Asked
-tick r R pulses coordinate = asked (on_first Tick) accepted r R pulses coordinate
+abbrev pub tick : ℕ → ℕ → ℕ → ℕ → Case
+tick r R pulses coordinate = case_of (on_first Tick) accepted r R pulses coordinate
 
 -- shift, feedback byte and coordinate of an axis without a move
-abbrev pub observes : ℕ → ℕ → ℕ → Asked
-observes shift feedback coordinate = asked (on_first Observe) (shows (pos shift) feedback) 0 0 0 coordinate
+abbrev pub observes : ℕ → ℕ → ℕ → Case
+observes shift feedback coordinate = case_of (on_first Observe) (shows (pos shift) feedback) 0 0 0 coordinate
 
 -- machine data, levels and a reference
-abbrev pub referenced : RawData → List Asked
+abbrev pub referenced : RawData → List Case
 referenced d = does (on_first (Enter d)) ∷ does ready ∷ does to_zero ∷ []
 
 -- THE TABLE
@@ -172,7 +172,7 @@ ramp =
     numbers (map (λ i. pos (ramp_of axis_a i)) (1 ∷ 2 ∷ 3 ∷ 4 ∷ 5 ∷ 6 ∷ []))
     (pos 1000000 ∷ pos 2000000 ∷ pos 2525000 ∷ pos 2800625 ∷ pos 2945328 ∷ pos 3000000 ∷ [])
 
-abbrev pub three_ticks : List Asked
+abbrev pub three_ticks : List Case
 three_ticks = under_way (to 1800 100) 0 10000000 0 ∷ tick 1 9000000 1 10 ∷ tick 2 7000000 2 30 ∷ tick 3 4475000 2 50 ∷ []
 
 -- axis A from 0 to 100 at speed 1,800
@@ -187,7 +187,7 @@ stopped =
     run (referenced axis_a ++ three_ticks
     ++ under_way stop 3 4475000 50 ∷ tick 2 2475000 2 70 ∷ tick 1 1475000 1 80 ∷ tick 0 0 0 80 ∷ observes 0 0x8A 80 ∷ [])
 
--- 1,000 units and 300 pulses per asked, and a rate at which each of these moves takes one tick
+-- 1,000 units and 300 pulses per turn, and a rate at which each of these moves takes one tick
 abbrev pub coarse : RawData
 coarse = record axis_a { fs = 3000000; units = 1000; pulses = 300 }
 
@@ -199,11 +199,11 @@ three_moves =
     ∷ under_way (forward 600 5) 0 1000000 5 ∷ tick 0 0 1 10
     ∷ under_way (forward 600 5) 0 2000000 10 ∷ tick 0 0 2 15 ∷ [])
 
--- with 10 units and 1 pulse per asked, the pulses of 5, 4 and −5
+-- with 10 units and 1 pulse per turn, the pulses of 5, 4 and −5
 abbrev pub pulses : Row
 pulses = numbers (map (pulses_of 10 1) (pos 5 ∷ pos 4 ∷ neg_ℤ (pos 5) ∷ [])) (pos 1 ∷ pos 0 ∷ pos 0 ∷ [])
 
--- with 3 units and 10 pulses per asked, the units nearest to 5 and −5 pulses
+-- with 3 units and 10 pulses per turn, the units nearest to 5 and −5 pulses
 abbrev pub nearest : Row
 nearest = numbers (map (nearest_of 3 10) (pos 5 ∷ neg_ℤ (pos 5) ∷ [])) (pos 2 ∷ neg_ℤ (pos 1) ∷ [])
 

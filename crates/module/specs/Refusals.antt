@@ -1,12 +1,11 @@
 -- What a refusal does: what its number says, and nothing else.
-use Rattle.std.specs.Prelude.{◌≡◌, ℕ, Bool, true, false, cond, ◌&&◌, ◌||◌, is_some, Some, None, Err, ◌==◌, nat_le}
+use Rattle.std.specs.Prelude.{◌≡◌, ℕ, Bool, true, false, cond, ◌&&◌, ◌||◌, is_some, Some, None, ◌==◌, nat_le}
 use Rattle.states.specs.declared.fault.AxisFault.{AxisFault}
 use Rattle.states.specs.Faults.{cause_number}
 use Rattle.states.specs.State.{Course, Travel, standing, between, Work, AxisState, with_work}
 use Rattle.orders.specs.Effects.{stopped_by}
 use Rattle.ticks.specs.Moving.{placed}
 use Rattle.ticks.specs.Ticks.{with_status}
-use Rattle.laws.specs.Reckoned.{loses}
 use Rattle.laws.specs.Blocks.{move_of}
 use Rattle.module.specs.declared.call.Act.{Act}
 use Rattle.module.specs.declared.call.Act.TheVariants.{Enter, Delete, Order, Level, Tick, Observe}
@@ -43,24 +42,28 @@ abbrev pub BlockRefused : AxisFault → AxisState → AxisState → Type 0
 BlockRefused f a b = (c : Course) × (a.status.work.phase ≡ between c)
     × (b ≡ with_values (record a.status.work { fault = Some f; phase = standing }) a)
 
--- 18 to 21, 23 and 24
+-- 23 and 24
+abbrev pub stops_at_once : ℕ → Bool
+stops_at_once n = n == 23 || n == 24
+
+-- these, and 18 to 21
 abbrev pub of_tick : ℕ → Bool
-of_tick n = (nat_le 18 n && nat_le n 21) || (n == 23 || n == 24)
+of_tick n = (nat_le 18 n && nat_le n 21) || stops_at_once n
 
 -- an axis runs a program, and moves, with machine data alone
 pub record TickRefused (f : AxisFault) (a b : AxisState) : Type 0 where
   pub number : is_some a.status.machine ≡ true → of_tick (cause_number f.cause) ≡ true
-  pub at_once : loses (Err f) ≡ true → StoppedAtOnce f a b
-  pub not_taken : loses (Err f) ≡ false → BlockRefused f a b
+  pub at_once : stops_at_once (cause_number f.cause) ≡ true → StoppedAtOnce f a b
+  pub not_taken : stops_at_once (cause_number f.cause) ≡ false → BlockRefused f a b
 
--- AN ACT of an axis: the refusals of all others change nothing
+-- AN ACT of an axis: levels and observing are never refused, and other refusals change nothing
 abbrev pub ActRefused : Act → AxisFault → AxisState → AxisState → Type 0
 ActRefused (Enter raw) f a b = b ≡ a
 ActRefused Delete f a b = b ≡ a
 ActRefused (Order o) f a b = OrderRefused f a b
-ActRefused (Level l) f a b = b ≡ a
+ActRefused (Level l) f a b = ⊥
 ActRefused Tick f a b = TickRefused f a b
-ActRefused Observe f a b = b ≡ a
+ActRefused Observe f a b = ⊥
 
 -- of the three axes the one that the call names alone, and the refusal is its fault
 abbrev pub RefusedAt : Bool → ℕ → Act → Fault → AxisState → AxisState → Type 0

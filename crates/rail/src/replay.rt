@@ -17,8 +17,8 @@ pub enum Stop {
 }
 
 impl From<NoBench> for Stop {
-    fn from(not_made: NoBench) -> Stop {
-        match not_made {
+    fn from(no_bench: NoBench) -> Stop {
+        match no_bench {
             NoBench::Drive(fault) => Stop::Drive(fault),
             NoBench::Memory(error) => Stop::Output(error.into()),
         }
