@@ -41,6 +41,22 @@ pub struct AxisView<'a> {
     pub reading: Reading,
 }
 
+impl Working {
+    /// The limits of a move's target: those of the machine data; without a reference those of a jog.
+    pub fn limits(&self, machine: &MachineData) -> Span
+        ensures { result ≡ record { low = lowest_of machine.now self.now.referenced; high = highest_of machine.now self.now.referenced } }
+    {
+        if !self.referenced {
+            return Span::REACH;
+        }
+        let values = machine.values();
+        Span {
+            low: values.low,
+            high: values.high,
+        }
+    }
+}
+
 impl Record {
     /// The axis with what its drive reads; none without machine data.
     pub fn view(&self, reading: Reading) -> Option<AxisView<'_>>
@@ -89,18 +105,11 @@ impl AxisView<'_> {
         (1..=u64::from(self.machine.values().fm)).contains(&wish.rate)
     }
 
-    /// The limits of its targets: those of the machine data; without a reference those of a jog.
+    /// The limits of its targets, as its working values have them.
     pub fn limits(&self) -> Span
         ensures { result ≡ record { low = lowest_of self.now.machine.now self.now.work.now.referenced; high = highest_of self.now.machine.now self.now.work.now.referenced } }
     {
-        if !self.work.referenced {
-            return Span::REACH;
-        }
-        let values = self.machine.values();
-        Span {
-            low: values.low,
-            high: values.high,
-        }
+        self.work.limits(self.machine)
     }
 
     /// A move to a target, with its distance from where the drive is.
