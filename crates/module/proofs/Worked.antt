@@ -11,7 +11,7 @@ use Rattle.ticks.specs.Ticks.{with_status}
 use Rattle.module.specs.declared.call.Act.TheVariants.{Enter}
 use Rattle.module.specs.State.{Machine}
 use Rattle.module.specs.Machine.{step}
-use Rattle.module.specs.Examples.{outcome, Case, outcomes, Row, numbers, run, stages, Comes, on_first, does, observes, axis_a, coarse, offset_a, ramp, hundred, stopped, three_moves, feedback, at_limit, past_limit, offset_in_program, WorkedExamples}
+use Rattle.module.specs.Examples.{outcome, Case, outcomes, Row, numbers, run, stages, Comes, on_first, does, observes, axis_a, coarse, offset_a, ramp, hundred, stopped, left_by_stop, three_moves, feedback, at_limit, past_limit, offset_in_program, WorkedExamples}
 
 -- CASE BY CASE
 
@@ -83,6 +83,10 @@ stopped_comes : Comes stopped
 unfolding after_first way ticked_in braked_in begun_in placed_in
 stopped_comes = entering axis_a (rest (cases_of stopped)) takes_a refl
 
+left_by_stop_comes : Comes left_by_stop
+unfolding after_first
+left_by_stop_comes = refl
+
 three_moves_comes : Comes three_moves
 unfolding after_first way ticked_in begun_in placed_in
 three_moves_comes = entering coarse (rest (cases_of three_moves)) takes_coarse refl
@@ -105,4 +109,4 @@ feedback_comes =
 
 pub worked : WorkedExamples
 worked =
-    (ramp_comes, (hundred_comes, (stopped_comes, (three_moves_comes, (refl, (refl, (refl, (refl, (feedback_comes, (at_limit_comes, (past_limit_comes, (offset_in_program_comes, tt))))))))))))
+    (ramp_comes, (hundred_comes, (stopped_comes, (left_by_stop_comes, (three_moves_comes, (refl, (refl, (refl, (refl, (feedback_comes, (at_limit_comes, (past_limit_comes, (offset_in_program_comes, tt)))))))))))))

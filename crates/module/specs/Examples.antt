@@ -9,7 +9,8 @@ use Rattle.drives.specs.Stage.{stage_at}
 use Rattle.drives.specs.Laws.{trail}
 use Rattle.motion.specs.declared.raw.RawData.{RawData}
 use Rattle.motion.specs.Ramp.{ramp_of}
-use Rattle.motion.specs.Places.{pulses_of, nearest_of}
+use Rattle.motion.specs.Places.{pulses_of, nearest_of, rate_of}
+use Rattle.motion.specs.Travel.{Going, begun, braked}
 use Rattle.states.specs.declared.order.Command.{Command}
 use Rattle.states.specs.declared.order.Command.TheVariants as command
 use Rattle.states.specs.State.{Phase, standing, moving, braking, held, between}
@@ -187,6 +188,19 @@ stopped =
     run (referenced axis_a ++ three_ticks
     ++ under_way stop 3 4475000 50 ∷ tick 2 2475000 2 70 ∷ tick 1 1475000 1 80 ∷ tick 0 0 0 80 ∷ observes 0 0x8A 80 ∷ [])
 
+-- what is left of that move after each of its braking ticks; the last one runs nothing
+abbrev pub at_the_stop : Going
+at_the_stop = record (begun axis_a.fm (rate_of axis_a.measure axis_a.units axis_a.pulses 1800)
+    (pulses_of axis_a.units axis_a.pulses (pos 100) -ℤ pulses_of axis_a.units axis_a.pulses (pos 0))) { left = 4475000; step = 3 }
+
+abbrev pub braked_a : Going → Going
+braked_a g = braked (ramp_of axis_a) g
+
+abbrev pub left_by_stop : Row
+left_by_stop =
+    numbers (map (λ g. pos g.left) (braked_a at_the_stop ∷ braked_a (braked_a at_the_stop) ∷ braked_a (braked_a (braked_a at_the_stop)) ∷ []))
+    (pos 2475000 ∷ pos 1475000 ∷ pos 1475000 ∷ [])
+
 -- 1,000 units and 300 pulses per turn, and a rate at which each of these moves takes one tick
 abbrev pub coarse : RawData
 coarse = record axis_a { fs = 3000000; units = 1000; pulses = 300 }
@@ -251,8 +265,8 @@ offset_in_program =
 
 abbrev pub table : List Row
 table =
-    ramp ∷ hundred ∷ stopped ∷ three_moves ∷ pulses ∷ nearest ∷ layer_counts ∷ stage_counts ∷ feedback ∷ at_limit ∷ past_limit
-    ∷ offset_in_program ∷ []
+    ramp ∷ hundred ∷ stopped ∷ left_by_stop ∷ three_moves ∷ pulses ∷ nearest ∷ layer_counts ∷ stage_counts ∷ feedback ∷ at_limit
+    ∷ past_limit ∷ offset_in_program ∷ []
 
 -- every row of the table comes out as it should
 abbrev pub WorkedExamples : Type 0
