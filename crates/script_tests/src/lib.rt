@@ -3,9 +3,11 @@
 
 #[cfg(test)]
 mod tests {
-    use script::{Build, Field, Mistake, Plan, read_line};
+    use module::Call;
+    use script::{Build, Field, Line, Mistake, Plan, read_line};
+    use units::Measure;
 
-    const READ: [&[u8]; 31] = [
+    const READ: [&[u8]; 33] = [
         b"",
         b"# a remark",
         b"#",
@@ -24,6 +26,7 @@ mod tests {
         b"order 1 2 stop 0 0 0",
         b"levels 1 0 0 1",
         b"levels 0 1 01 -0",
+        b"levels 0 1 1 0",
         b"tick 1",
         b"tick 1 4294967295",
         b"tick 001 -0",
@@ -34,12 +37,13 @@ mod tests {
         b"open 0 mm",
         b"add 255",
         b"add 7  N10 X1 ",
+        b"close 7",
         b"abandon 007",
         b"delete 7",
         b"delete 255",
     ];
 
-    const REFUSED: [(&[u8], Mistake); 52] = [
+    const REFUSED: [(&[u8], Mistake); 58] = [
         (b" levels 1 0 0 1", Mistake::UnknownCall),
         (b"level 1 0 0 1", Mistake::UnknownCall),
         (b"Levels 1 0 0 1", Mistake::UnknownCall),
@@ -110,8 +114,10 @@ mod tests {
             Mistake::Expected(Field::DoubleWord),
         ),
         (b"order 1 6 start 0 0", Mistake::Missing(Field::DoubleWord)),
+        (b"levels", Mistake::Missing(Field::Axis)),
         (b"levels 1 0 0", Mistake::Missing(Field::Ready)),
         (b"levels 256 0 0 1", Mistake::Expected(Field::Axis)),
+        (b"levels -1 0 0 1", Mistake::Expected(Field::Axis)),
         (b"levels 1 2 0 1", Mistake::Expected(Field::Begin)),
         (b"levels 1 0  1", Mistake::Expected(Field::End)),
         (b"levels 1 0 0 1\r", Mistake::Expected(Field::Ready)),
@@ -120,18 +126,22 @@ mod tests {
         (b"tick 1 4294967296", Mistake::Expected(Field::Ticks)),
         (b"tick 1 1 1", Mistake::TooManyWords),
         (b"observe", Mistake::Missing(Field::Axis)),
+        (b"read", Mistake::Missing(Field::Measure)),
         (b"read cm X1", Mistake::Expected(Field::Measure)),
         (b"open 7", Mistake::Missing(Field::Measure)),
         (b"open 256 mm", Mistake::Expected(Field::Number)),
+        (b"add", Mistake::Missing(Field::Number)),
         (b"close 7 ", Mistake::TooManyWords),
         (b"delete", Mistake::Missing(Field::Number)),
         (b"delete 256", Mistake::Expected(Field::Number)),
         (b"delete 7 8", Mistake::TooManyWords),
+        (b"drive 1", Mistake::Missing(Field::Stage)),
         (b"drive 1 stepper 0", Mistake::Expected(Field::Stage)),
         (
             b"drive 1 takeup 65536 clock 0",
             Mistake::Expected(Field::Play),
         ),
+        (b"drive 1 clock", Mistake::Missing(Field::StageCount)),
         (
             b"drive 1 clock 9223372036854775808",
             Mistake::Expected(Field::StageCount),
@@ -146,6 +156,40 @@ mod tests {
     fn lines_of_the_form_are_read(rt: HostRuntime) {
         for line in READ {
             assert!(rt; read_line(line).is_ok());
+        }
+    }
+
+    // Each call of the store, by its own word.
+    #[test]
+    fn words_of_the_store_are_its_calls(rt: HostRuntime) {
+        assert!(rt;
+            matches!(
+                read(b"open 7 inch"),
+                Some(Call::Open {
+                    number: 7,
+                    measure: Measure::Inch
+                })
+            )
+        );
+        assert!(rt;
+            matches!(
+                read(b"add 7 M30"),
+                Some(Call::Add {
+                    number: 7,
+                    line: b"M30"
+                })
+            )
+        );
+        assert!(rt; matches!(read(b"close 7"), Some(Call::Close { number: 7 })));
+        assert!(rt; matches!(read(b"abandon 7"), Some(Call::Abandon { number: 7 })));
+        assert!(rt; matches!(read(b"delete 7"), Some(Call::DeleteProgram { number: 7 })));
+    }
+
+    // The call that a line makes, if it is one.
+    fn read<'a>(line: &'a [u8]) -> Option<Call<'a>> {
+        match read_line(line) {
+            Ok(Some(Line::Call(call))) => Some(call),
+            _ => None,
         }
     }
 
