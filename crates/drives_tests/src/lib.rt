@@ -8,7 +8,7 @@ mod tests {
     use drives::clock_stage::{ClockStage, FARTHEST};
     use drives::direction::Direction;
     use drives::drive::Drive;
-    use drives::fault::Refusal;
+    use drives::fault::{DriveFault, Refusal};
     use drives::send::send;
     use drives::take_up::{Counts, TakeUp};
     use std::process::Abort;
@@ -66,6 +66,12 @@ mod tests {
         ),
     ];
 
+    // The first pulse turns the flank.
+    const FREE: &[Row] = &[
+        (Level(true), Ok(()), 0, 0),
+        (Pulse(Backward), Ok(()), -1, -1),
+    ];
+
     const PLAY_OF_THREE: &[Row] = &[
         (Level(true), Ok(()), 0, 0),
         (Pulse(Forward), Ok(()), 1, 1),
@@ -86,27 +92,49 @@ mod tests {
         let mut free = TakeUp::new(ClockStage::new(FARTHEST - 2)?, 0)?;
         run(&rt, &mut free, ENDED);
         assert_eq!(rt; free.below().direction(), Backward);
+        run(&rt, &mut TakeUp::new(ClockStage::new(0)?, 0)?, FREE);
         let mut screw = TakeUp::new(ClockStage::new(0)?, 3)?;
         run(&rt, &mut screw, PLAY_OF_THREE);
         let mut outer = TakeUp::new(TakeUp::new(ClockStage::new(0)?, 2)?, 5)?;
         run(&rt, &mut outer, LAYERS);
         assert_eq!(rt; outer.below().below().count(), -5);
+        assert_eq!(rt; outer.least(), 7 - FARTHEST);
         Ok(())
     }
 
-    // The ends of a layer with a play over a stage at a count, if both can be made.
-    fn ends(count: i64, play: u16) -> Option<(i64, i64)> {
-        let screw = TakeUp::new(ClockStage::new(count).ok()?, play).ok()?;
-        Some((screw.least(), screw.greatest()))
+    #[test]
+    fn stage_alone(rt: HostRuntime) -> Result<(), Fail> {
+        for count in [FARTHEST + 1, i64::MIN] {
+            assert!(rt; matches!(ClockStage::new(count), Err(DriveFault::NotMade)));
+        }
+        let mut stage = ClockStage::new(FARTHEST - 2)?;
+        assert_eq!(rt; stage.pulse(Forward), Err(Refusal::NotReady));
+        assert_eq!(rt; stage.count(), FARTHEST - 2);
+        stage.level(true);
+        assert_eq!(rt; send(&mut stage, Forward, 3), Err(Refusal::Ended));
+        assert_eq!(rt; stage.count(), FARTHEST);
+        assert_eq!(rt; stage.pulse(Backward), Ok(()));
+        assert_eq!(rt; stage.direction(), Backward);
+        Ok(())
     }
 
-    const MADE: [(i64, u16, Option<(i64, i64)>); 6] = [
+    // Least, count and greatest of a layer with a play over a stage at a count, if both can be made.
+    fn ends(count: i64, play: u16) -> Option<(i64, i64, i64)> {
+        let screw = TakeUp::new(ClockStage::new(count).ok()?, play).ok()?;
+        Some((screw.least(), screw.count(), screw.greatest()))
+    }
+
+    const MADE: [(i64, u16, Option<(i64, i64, i64)>); 6] = [
         (FARTHEST + 1, 0, None),
         (i64::MIN, 0, None),
-        (-FARTHEST, 0, Some((-FARTHEST, FARTHEST))),
+        (-FARTHEST, 0, Some((-FARTHEST, -FARTHEST, FARTHEST))),
         (7 - FARTHEST, 8, None),
-        (8 - FARTHEST, 8, Some((8 - FARTHEST, FARTHEST))),
-        (0, u16::MAX, Some((65_535 - FARTHEST, FARTHEST))),
+        (
+            8 - FARTHEST,
+            8,
+            Some((8 - FARTHEST, 8 - FARTHEST, FARTHEST)),
+        ),
+        (0, u16::MAX, Some((65_535 - FARTHEST, 0, FARTHEST))),
     ];
 
     #[test]

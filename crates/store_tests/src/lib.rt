@@ -26,9 +26,9 @@ mod tests {
         r.err().map(|fault| fault.number())
     }
 
-    fn answer(store: &mut Store, act: Act) -> Option<u8> {
+    fn answer(store: &mut Store, measure: Measure, act: Act) -> Option<u8> {
         match act {
-            Act::Open(number) => number_of(store.open_number(number, Measure::Inch)),
+            Act::Open(number) => number_of(store.open_number(number, measure)),
             Act::Add(number, line) => number_of(store.add_line(number, line)),
             Act::Close(number) => number_of(store.close_number(number)),
             Act::Abandon(number) => number_of(store.abandon_number(number)),
@@ -84,18 +84,19 @@ mod tests {
         (Act::Delete(1), None),
     ];
 
-    fn run(rt: &impl Abort, store: &mut Store, rows: &[Row]) {
+    // Makes the calls; entries are opened in this measure.
+    fn run(rt: &impl Abort, store: &mut Store, measure: Measure, rows: &[Row]) {
         for (row, (act, number)) in rows.iter().enumerate() {
-            assert_eq!(rt; answer(store, *act), *number, "row {row}");
+            assert_eq!(rt; answer(store, measure, *act), *number, "row {row}");
         }
     }
 
     #[test]
     fn every_number(rt: HostRuntime) -> Result<(), Fail> {
         let mut store = Store::new(rt.alloc())?;
-        run(&rt, &mut store, CALLS);
+        run(&rt, &mut store, Measure::Millimetre, CALLS);
         let measures = [store.measure_of(1), store.measure_of(2)];
-        assert_eq!(rt; measures, [None, Some(Measure::Inch)]);
+        assert_eq!(rt; measures, [None, Some(Measure::Millimetre)]);
         Ok(())
     }
 
@@ -105,13 +106,14 @@ mod tests {
 
     // A program of 64 blocks; then there is no room for a line.
     fn fill(rt: &impl Abort, store: &mut Store, number: u8) {
-        run(rt, store, &[(Act::Open(number), None)]);
+        run(rt, store, Measure::Inch, &[(Act::Open(number), None)]);
         for _ in 0..63 {
-            run(rt, store, &[(Act::Add(number, LINE), None)]);
+            run(rt, store, Measure::Inch, &[(Act::Add(number, LINE), None)]);
         }
         run(
             rt,
             store,
+            Measure::Inch,
             &[
                 (Act::Add(number, LAST), None),
                 (Act::Add(number, LINE), Some(31)),
@@ -153,7 +155,7 @@ mod tests {
         for number in 1u8..17 {
             is_full(&rt, &store, number)?;
         }
-        run(&rt, &mut store, FULL);
+        run(&rt, &mut store, Measure::Inch, FULL);
         Ok(())
     }
 }
