@@ -80,6 +80,12 @@ mod tests {
         (Pulse(Forward), Ok(()), 2, 2),
     ];
 
+    // A play of 3 over a stage that is ready before the layer is laid on it.
+    const OVER_A_READY_STAGE: &[Row] = &[
+        (Pulse(Forward), Ok(()), 1, 1),
+        (Pulse(Backward), Ok(()), 0, -3),
+    ];
+
     // A play of 5 over one of 2.
     const LAYERS: &[Row] = &[
         (Level(true), Ok(()), 0, 0),
@@ -95,6 +101,9 @@ mod tests {
         run(&rt, &mut TakeUp::new(ClockStage::new(0)?, 0)?, FREE);
         let mut screw = TakeUp::new(ClockStage::new(0)?, 3)?;
         run(&rt, &mut screw, PLAY_OF_THREE);
+        let mut ready = ClockStage::new(0)?;
+        ready.level(true);
+        run(&rt, &mut TakeUp::new(ready, 3)?, OVER_A_READY_STAGE);
         let mut outer = TakeUp::new(TakeUp::new(ClockStage::new(0)?, 2)?, 5)?;
         run(&rt, &mut outer, LAYERS);
         assert_eq!(rt; outer.below().below().count(), -5);
